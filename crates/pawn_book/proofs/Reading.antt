@@ -7,7 +7,7 @@ use Rattle.std.proofs.Common.{◌≡◌, subst, Ok, Result, IfOk}
 pub on_then : {K : Type 0} {k : Keeping K} {a b c : K} → GoesOn k a b → GoesOn k b c → GoesOn k a c
 on_then f s = record {
   was_honest = λ honest. f.was_honest (s.was_honest honest);
-  served = λ honest now. f.served (s.was_honest honest) (s.served honest now);
+  was_usable = λ honest now. f.was_usable (s.was_honest honest) (s.was_usable honest now);
   stays = λ steady. s.stays (f.stays steady);
   whole = λ honest whole. s.whole honest (f.whole (s.was_honest honest) whole);
 }
@@ -15,10 +15,10 @@ on_then f s = record {
 -- a keeper that was not asked is as it was
 pub reads_none : {K : Type 0} (k : Keeping K) (s : K) (P : Host → Type 0) → ((h : Host) → P h) → Reads k s s P
 reads_none k s P all = record {
-  on = record { was_honest = λ honest. honest; served = λ honest now. now; stays = λ steady. steady; whole = λ honest whole. whole };
+  on = record { was_honest = λ honest. honest; was_usable = λ honest now. now; stays = λ steady. steady; whole = λ honest whole. whole };
   same = λ honest h at. at;
   back = λ honest now h at. at;
-  tells = λ honest h at. all h;
+  states = λ honest h at. all h;
   crash = λ honest left at. at;
 }
 
@@ -28,14 +28,14 @@ pub reads_then : {K : Type 0} {k : Keeping K} {a b c : K} {P Q R : Host → Type
 reads_then f s both = record {
   on = on_then f.on s.on;
   same = λ honest h at. s.same honest h (f.same (s.on.was_honest honest) h at);
-  back = λ honest now h at. f.back (s.on.was_honest honest) (s.on.served honest now) h (s.back honest now h at);
-  tells = λ honest h at. both h (f.tells (s.on.was_honest honest) h at) (s.tells honest h (f.same (s.on.was_honest honest) h at));
+  back = λ honest now h at. f.back (s.on.was_honest honest) (s.on.was_usable honest now) h (s.back honest now h at);
+  states = λ honest h at. both h (f.states (s.on.was_honest honest) h at) (s.states honest h (f.same (s.on.was_honest honest) h at));
   crash = λ honest h left. f.crash (s.on.was_honest honest) h (s.crash honest h left);
 }
 
 -- a fact of a read, replaced by one that follows from it
 pub reads_as : {K : Type 0} {k : Keeping K} {a b : K} {P Q : Host → Type 0} → Reads k a b P → ((h : Host) → P h → Q h) → Reads k a b Q
-reads_as f as_q = record { on = f.on; same = f.same; back = f.back; tells = λ honest h at. as_q h (f.tells honest h at); crash = f.crash }
+reads_as f as_q = record { on = f.on; same = f.same; back = f.back; states = λ honest h at. as_q h (f.states honest h at); crash = f.crash }
 
 -- the value of an `Ok` is the one that was stated of it
 pub ok_is : {T E : Type 0} {r : Result T E} {v x : T} → r ≡ Ok v → IfOk r (λ p. p ≡ x) → v ≡ x

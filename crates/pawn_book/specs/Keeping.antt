@@ -27,7 +27,7 @@ pub record Keeping (K : Type 0) : Type 1 where
   -- its store has returned what was written
   pub honest : K → Type 0
   -- its store still answers: no fault has shut it. A keeper whose store is shut may stand for further hosts
-  pub serves : K → Type 0
+  pub usable : K → Type 0
   -- its store never fails
   pub steady : K → Type 0
   -- the hosts that a crash now may leave
@@ -35,11 +35,11 @@ pub record Keeping (K : Type 0) : Type 1 where
   -- it stands for a sound host, and a crash now may leave only sound hosts
   pub whole : K → Type 0
 
--- what a call preserves of a keeper: one that is honest after the call was honest before it, and served before it if it
--- serves after it; a steady keeper stays steady, and a whole keeper stays whole if it is honest after the call
+-- what a call preserves of a keeper: one that is honest after the call was honest before it, and usable before it if it
+-- is usable after it; a steady keeper stays steady, and a whole keeper stays whole if it is honest after the call
 pub record GoesOn {K : Type 0} (k : Keeping K) (old new : K) : Type 0 where
   pub was_honest : k.honest new → k.honest old
-  pub served : k.honest new → k.serves new → k.serves old
+  pub was_usable : k.honest new → k.usable new → k.usable old
   pub stays : k.steady old → k.steady new
   pub whole : k.honest new → k.whole old → k.whole new
 
@@ -49,12 +49,12 @@ pub record WholeIsSound {K : Type 0} (k : Keeping K) : Type 0 where
   pub left : (x : K) → k.whole x → (h : Host) → k.leaves x h → IsSound h
 
 -- a call that changes nothing: P holds of each host that the keeper stood for, and after the call the keeper stands for
--- these hosts and, while it serves, for no others
+-- these hosts and, while it is usable, for no others
 pub record Reads {K : Type 0} (k : Keeping K) (old new : K) (P : Host → Type 0) : Type 0 where
   pub on : GoesOn k old new
   pub same : k.honest new → (h : Host) → k.stands old h → k.stands new h
-  pub back : k.honest new → k.serves new → (h : Host) → k.stands new h → k.stands old h
-  pub tells : k.honest new → (h : Host) → k.stands old h → P h
+  pub back : k.honest new → k.usable new → (h : Host) → k.stands new h → k.stands old h
+  pub states : k.honest new → (h : Host) → k.stands old h → P h
   -- a crash can leave no host that it could not leave before
   pub crash : k.honest new → (left : Host) → k.leaves new left → k.leaves old left
 

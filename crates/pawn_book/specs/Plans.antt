@@ -100,8 +100,8 @@ IsBearerWrite (bearer.Present receipts) = ⊥
 IsBearerWrite (bearer.OnPledge receipt command) = Unit {0}
 
 -- a request that may change its book
-abbrev pub IsWritten : Caller → Type 0
-IsWritten (Operator key new) = Unit {0}
-IsWritten (Broker key asked) = Unit {0}
-IsWritten (Viewer key view) = ⊥
-IsWritten (Bearer asked) = IsBearerWrite asked
+abbrev pub MayChange : Caller → Type 0
+MayChange (Operator key new) = Unit {0}
+MayChange (Broker key asked) = Unit {0}
+MayChange (Viewer key view) = ⊥
+MayChange (Bearer asked) = IsBearerWrite asked

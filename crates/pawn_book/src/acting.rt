@@ -3,7 +3,7 @@
 ghost use Rattle.pawn_book.specs.Changes.{CanSave};
 ghost use Rattle.pawn_book.specs.HostStep.{Host};
 ghost use Rattle.pawn_book.specs.Keeping.{GoesOn, IsQuiet, OfHost};
-ghost use Rattle.pawn_book.specs.Plans.{Acts, Commits, IsLeftByAct, IsLeftByCommit, IsWritten};
+ghost use Rattle.pawn_book.specs.Plans.{Acts, Commits, IsLeftByAct, IsLeftByCommit, MayChange};
 ghost use Rattle.std.specs.Prelude.{IfSome};
 
 use crate::change::Planned;
@@ -19,7 +19,7 @@ use std::alloc::Global;
 /// Saves the change of a plan, if it has one. Refused as `Full` if the rows would be above the limit of the host, and
 /// as `Memory` or `Store` if the keeper fails. After a refusal the books are as before.
 pub fn commit<K: Keep>(keep: &mut K, planned: &Planned) -> Result<(), Refusal>
-    requires saves { K.keeping.serves keep.old → OfHost K.keeping keep.old keep.old (λ h. IfSome planned.now.change (CanSave h)) }
+    requires saves { K.keeping.usable keep.old → OfHost K.keeping keep.old keep.old (λ h. IfSome planned.now.change (CanSave h)) }
     ensures on { GoesOn K.keeping keep.old keep.new }
     ensures commits { OfHost K.keeping keep.old keep.new (λ h. Commits h planned.now.change result (K.keeping.stands keep.new)) }
     ensures crash { OfHost K.keeping keep.old keep.new
@@ -45,7 +45,7 @@ pub fn act<K: Keep>(
     stamp: &Stamp,
     request: &Request,
 ) -> Result<Reply, Refusal>
-    requires written { IsWritten request.now.caller }
+    requires changes { MayChange request.now.caller }
     ensures on { GoesOn K.keeping keep.old keep.new }
     ensures acts { OfHost K.keeping keep.old keep.new (λ h. Acts h operator stamp.now request.now result (K.keeping.stands keep.new)) }
     ensures crash { OfHost K.keeping keep.old keep.new

@@ -77,7 +77,7 @@ fn plan_command(
     ensures store { result ≡ Err Refusal.Store → ⊥ }
 {
     know_stamp(stamp);
-    match pledge.apply_telling(stamp, command) {
+    match pledge.apply_with_report(stamp, command) {
         Err(PledgeRefusal::Memory) => Err(Refusal::Memory),
         Err(refusal) => Err(Refusal::Pledge(refusal)),
         Ok(applied) => {

@@ -26,7 +26,7 @@ use pawn_pledge::{Brief, Day, Entry, Extension, Number, Pledge, Reference, Terms
 /// A keeper: a value that keeps a host, in a list or in tables. Only `save` changes the host.
 pub trait Keep {
     /// The predicates by which contracts describe a keeper, in the order of the fields of `Keeping`: the hosts that it
-    /// stands for (represents); whether its store is honest, serves and is steady; the hosts that a crash now may
+    /// stands for (represents); whether its store is honest, usable and steady; the hosts that a crash now may
     /// leave; and whether the keeper is whole.
     ghost keeping: { Keeping Self };
 
@@ -145,7 +145,7 @@ pub trait Keep {
     /// Saves a change, or returns `Full` if the rows would be above the limit of the host. After an error the books are
     /// as before. If the error is not `Full`, a crash after it may still leave the changed book.
     fn save(&mut self, change: &Change) -> Result<(), SaveError>
-        requires can_save { keeping.serves self.old → OfHost keeping self.old self.old (λ h. CanSave h change.now) }
+        requires can_save { keeping.usable self.old → OfHost keeping self.old self.old (λ h. CanSave h change.now) }
         ensures saves { Saves keeping self.old self.new change.now result };
 
     // A whole keeper stands for a sound host, and a crash may leave only sound ones.

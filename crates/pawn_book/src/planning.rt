@@ -1,7 +1,7 @@
 //! Plans of requests.
 ghost use Rattle.pawn_book.specs.BookStep.{book_step};
 ghost use Rattle.pawn_book.specs.Keeping.{IsQuiet, Reads};
-ghost use Rattle.pawn_book.specs.Plans.{IsWritten, Plans};
+ghost use Rattle.pawn_book.specs.Plans.{MayChange, Plans};
 ghost use Rattle.pawn_book.specs.Sound.{IsSound};
 ghost use Rattle.std.specs.FinMap.{get};
 
@@ -26,7 +26,7 @@ pub fn plan<K: Keep>(
     stamp: &Stamp,
     request: &Request,
 ) -> Result<Planned, Refusal>
-    requires written { IsWritten request.now.caller }
+    requires changes { MayChange request.now.caller }
     ensures reads { Reads K.keeping keep.old keep.new
         (λ h. IsSound h → Plans h request.now.book (book_step (get h.books request.now.book) operator request.now.book stamp.now request.now.caller) result) }
     ensures steady { IsQuiet K.keeping keep.old result }

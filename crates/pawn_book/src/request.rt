@@ -2,7 +2,7 @@
 
 ghost use Rattle.pawn_book.specs.Common.{IsText, IsUtf8};
 ghost use Rattle.pawn_book.specs.Limits.{IsCapacity};
-ghost use Rattle.pawn_book.specs.Plans.{IsBearerWrite, IsWritten};
+ghost use Rattle.pawn_book.specs.Plans.{IsBearerWrite, MayChange};
 ghost use Rattle.pawn_book.specs.Sound.{IsWord};
 ghost use Rattle.std.specs.Prelude.{◌≡◌, ◌↔◌, IfOk, IsTrue};
 
@@ -41,7 +41,7 @@ pub enum Caller {
 impl Caller {
     /// Whether the request may change its book. A request that only shows something may not.
     pub fn writes(&self) -> bool
-        ensures writes { IsTrue result ↔ IsWritten self.now }
+        ensures writes { IsTrue result ↔ MayChange self.now }
     {
         match self {
             Caller::Operator { .. } => true,

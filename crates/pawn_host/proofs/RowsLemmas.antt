@@ -3,7 +3,7 @@ use Rattle.pawn_csv.specs.Exports.{text_of}
 use Rattle.pawn_host.proofs.RunLemmas.{acted_text, view_request, step_past_gate}
 use Rattle.pawn_host.specs.Common.{BookValue, Exported, Host, View, Request, Says, SaysRequest, Stamp, csv_of}
 use Rattle.pawn_host.specs.Common.{host_step, reply_text, rows_of_book}
-use Rattle.pawn_host.specs.Keeps.{GoesTo, IsActed, IsKeyOf, Kept, Start, Tells, answer_bytes}
+use Rattle.pawn_host.specs.Keeps.{GoesTo, IsActed, IsKeyOf, Kept, Start, States, answer_bytes}
 use Rattle.pawn_host.specs.declared.service.Answer.{Answer}
 use Rattle.pawn_view.proofs.StatementLemmas.{some_same}
 use Rattle.std.proofs.Common.{◌≡◌, ◌∙◌, ℕ, List, ap, sym, Some, None, Ok, codes, option_map}
@@ -27,10 +27,10 @@ no_text h book key with_key none = (let some = sym (text_is h book key with_key)
 -- the answer has the text
 pub acted_rows : (start : Start) (stamp : Stamp) (bytes : List ℕ) (answer : Answer) (kept : Kept) (book key : ℕ) (text out : List ℕ)
     → SaysRequest bytes (Ok (rows_request book key)) → IsKeyOf start.host book key → text_of start.host book ≡ Some text → text ≡ out
-    → Tells answer (reply_text 200 (codes "text/csv; charset=utf-8") out) → GoesTo kept start.host start.leaves
+    → States answer (reply_text 200 (codes "text/csv; charset=utf-8") out) → GoesTo kept start.host start.leaves
     → IsActed start stamp bytes (answer_bytes answer) kept
-acted_rows start stamp bytes answer kept book key text out read with_key is all tells goes =
+acted_rows start stamp bytes answer kept book key text out read with_key is all states goes =
     let step = step_rows start.host start.operator stamp book key with_key in
     let same : out ≡ csv_of (rows_of_book with_key.0) = sym all ∙ sym (some_same (sym (text_is start.host book key with_key) ∙ is)) in
     acted_text start stamp bytes answer kept (rows_request book key) (Exported (rows_of_book with_key.0)) (codes "text/csv; charset=utf-8") out read step
-    (ap (reply_text 200 (codes "text/csv; charset=utf-8")) same) tells goes
+    (ap (reply_text 200 (codes "text/csv; charset=utf-8")) same) states goes

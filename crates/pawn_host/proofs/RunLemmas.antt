@@ -11,7 +11,7 @@ use Rattle.pawn_host.specs.Common.{Replied, View, Viewer, WireFault, are_unknown
 use Rattle.pawn_host.specs.Common.{host_after, host_step, memory_text, no_memory, no_store, out_of, out_text, pledge_in}
 use Rattle.pawn_host.specs.Common.{read_as, reply_text, rows, show_pledge, view_step, within_limit}
 use Rattle.pawn_host.specs.Crashes.{IsDone}
-use Rattle.pawn_host.specs.Keeps.{GoesTo, IsActed, IsKeyOf, Kept, Start, Tells, answer_bytes}
+use Rattle.pawn_host.specs.Keeps.{GoesTo, IsActed, IsKeyOf, Kept, Start, States, answer_bytes}
 use Rattle.pawn_host.specs.Run.{said_text}
 use Rattle.pawn_host.specs.declared.service.Answer.{Answer}
 use Rattle.pawn_host.specs.declared.service.Answer.TheVariants.{Bytes, Memory}
@@ -65,7 +65,7 @@ faulted_bytes start stamp bytes reply kept e (inr x) is goes = elim (is_memory e
 ]
 
 pub acted_fault : (start : Start) (stamp : Stamp) (bytes : List ℕ) (answer : Answer) (kept : Kept) (e : WireFault)
-    → (e ≡ WireFault.Memory) ⊎ SaysRequest bytes (Err e) → Tells answer (out_text (wire.Fault e)) → GoesTo kept start.host start.leaves
+    → (e ≡ WireFault.Memory) ⊎ SaysRequest bytes (Err e) → States answer (out_text (wire.Fault e)) → GoesTo kept start.host start.leaves
     → IsActed start stamp bytes (answer_bytes answer) kept
 acted_fault start stamp bytes (Bytes v) kept e read is goes = faulted_bytes start stamp bytes v.items kept e read is goes
 acted_fault start stamp bytes Memory kept e read is goes = acted_memory start stamp bytes memory_text kept refl goes
@@ -111,7 +111,7 @@ goes_unwell start stamp bytes request why kept read goes = goes_wider goes from 
 
 -- the request was refused, and the answer reports that
 pub acted_unmade : (start : Start) (stamp : Stamp) (bytes : List ℕ) (answer : Answer) (kept : Kept) (request : Request) (why : Refusal)
-    → SaysRequest bytes (Ok request) → Tells answer (out_text (wire.Refused why)) → GoesUnmade start stamp request why kept
+    → SaysRequest bytes (Ok request) → States answer (out_text (wire.Refused why)) → GoesUnmade start stamp request why kept
     → (start.Steady → why ≡ Refusal.Store → ⊥) → IsActed start stamp bytes (answer_bytes answer) kept
 acted_unmade start stamp bytes Memory kept request why read is (inl unwell) calm =
     record { mark = no_memory; marked = tt; text = refl; goes = goes_unwell start stamp bytes request why kept read unwell.1 }
@@ -134,7 +134,7 @@ acted_unmade start stamp bytes (Bytes v) kept request why read is (inr refused) 
 
 -- the same, if the keeper was only read
 pub acted_refused : (start : Start) (stamp : Stamp) (bytes : List ℕ) (answer : Answer) (kept : Kept) (request : Request) (why : Refusal)
-    → SaysRequest bytes (Ok request) → Tells answer (out_text (wire.Refused why)) → GoesTo kept start.host start.leaves
+    → SaysRequest bytes (Ok request) → States answer (out_text (wire.Refused why)) → GoesTo kept start.host start.leaves
     → IsRefused (host_step start.host start.operator stamp request) why → (start.Steady → why ≡ Refusal.Store → ⊥)
     → IsActed start stamp bytes (answer_bytes answer) kept
 acted_refused start stamp bytes answer kept request why read is goes (inl unwell) calm =
@@ -171,10 +171,10 @@ err_is r why is store = is ∙ ap (λ (w : Refusal). Err w) store
 -- the answer has the text of the host's step
 pub acted_text : (start : Start) (stamp : Stamp) (bytes : List ℕ) (answer : Answer) (kept : Kept) (request : Request) (said : Out) (kind out : List ℕ)
     → SaysRequest bytes (Ok request) → host_step start.host start.operator stamp request ≡ Says said → reply_text 200 kind out ≡ said_text (Answered said)
-    → Tells answer (reply_text 200 kind out) → GoesTo kept start.host start.leaves → IsActed start stamp bytes (answer_bytes answer) kept
-acted_text start stamp bytes Memory kept request said kind out read step same tells goes = acted_memory start stamp bytes memory_text kept refl goes
-acted_text start stamp bytes (Bytes v) kept request said kind out read step same tells goes =
-    acted_said start stamp bytes v.items kept request said read (ap out_of step) (tells ∙ same) (goes_by start stamp request kept (Says said) step goes)
+    → States answer (reply_text 200 kind out) → GoesTo kept start.host start.leaves → IsActed start stamp bytes (answer_bytes answer) kept
+acted_text start stamp bytes Memory kept request said kind out read step same states goes = acted_memory start stamp bytes memory_text kept refl goes
+acted_text start stamp bytes (Bytes v) kept request said kind out read step same states goes =
+    acted_said start stamp bytes v.items kept request said read (ap out_of step) (states ∙ same) (goes_by start stamp request kept (Says said) step goes)
 
 -- the type of a plain text
 abbrev pub plain : List ℕ
@@ -213,14 +213,14 @@ nothing_shown h operator stamp book day receipts is = step_unknown h operator st
 -- the answer has the text of the receipts
 pub acted_shown : (start : Start) (stamp : Stamp) (bytes : List ℕ) (answer : Answer) (kept : Kept) (book day : ℕ) (receipts : List Receipt) (text out : List ℕ)
     → SaysRequest bytes (Ok (present_request book receipts)) → day ≡ stamp.day → presentation_of start.host book receipts day ≡ Some text → text ≡ out
-    → Tells answer (reply_text 200 plain out) → GoesTo kept start.host start.leaves → IsActed start stamp bytes (answer_bytes answer) kept
-acted_shown start stamp bytes answer kept book day receipts text out read day_is is all tells goes =
+    → States answer (reply_text 200 plain out) → GoesTo kept start.host start.leaves → IsActed start stamp bytes (answer_bytes answer) kept
+acted_shown start stamp bytes answer kept book day receipts text out read day_is is all states goes =
     let shown = live_pledges start.host book receipts in
     let known = text_known (are_unknown shown) (presented_text day shown) text is in
     let step = step_known start.host start.operator stamp book receipts known.0 in
     let same : out ≡ presented_text stamp.day shown = sym all ∙ known.1 ∙ ap (λ (x : ℕ). presented_text x shown) day_is in
     acted_text start stamp bytes answer kept (present_request book receipts) (Shown stamp.day shown) plain out read step
-    (ap (reply_text 200 plain) same) tells goes
+    (ap (reply_text 200 plain) same) states goes
 
 -- ---- what the holder of a book's key asks for
 
@@ -256,9 +256,9 @@ no_pledge h operator stamp book key number day with_key none = step_key h operat
 -- the answer has the statement of a pledge
 pub acted_statement : (start : Start) (stamp : Stamp) (bytes : List ℕ) (answer : Answer) (kept : Kept) (book key number day : ℕ) (text out : List ℕ)
     → SaysRequest bytes (Ok (show_request book key number)) → IsKeyOf start.host book key → day ≡ stamp.day
-    → statement_of start.host book number day ≡ Some text → text ≡ out → Tells answer (reply_text 200 plain out) → GoesTo kept start.host start.leaves
+    → statement_of start.host book number day ≡ Some text → text ≡ out → States answer (reply_text 200 plain out) → GoesTo kept start.host start.leaves
     → IsActed start stamp bytes (answer_bytes answer) kept
-acted_statement start stamp bytes answer kept book key number day text out read with_key day_is is all tells goes =
+acted_statement start stamp bytes answer kept book key number day text out read with_key day_is is all states goes =
     from (pledge_at start.host book number) refl is where
       from : (o : Option PledgeValue) → pledge_at start.host book number ≡ o → option_map (statement_text day) o ≡ Some text
           → IsActed start stamp bytes (answer_bytes answer) kept
@@ -269,7 +269,7 @@ acted_statement start stamp bytes answer kept book key number day text out read 
           step_key start.host start.operator stamp book key number with_key ∙ ap (λ o. within_limit start.host book (show_pledge stamp o)) there in
           let same : out ≡ presented_text stamp.day (Some p ∷ []) =
           sym all ∙ sym (some_same is) ∙ ap (λ (x : ℕ). statement_text x p) day_is ∙ sym (append-nil (statement_text stamp.day p)) in
-          acted_text start stamp bytes answer kept (show_request book key number) said plain out read step (ap (reply_text 200 plain) same) tells goes
+          acted_text start stamp bytes answer kept (show_request book key number) said plain out read step (ap (reply_text 200 plain) same) states goes
 
 -- the key was that of another book or of none, or the keeper did not answer
 pub gate_refused : (h : Host) (operator : ℕ) (stamp : Stamp) (book key : ℕ) (view : View) (why : Refusal) → Gates (get h.books book) key (Err why)

@@ -3,7 +3,7 @@ use Rattle.pawn_book.specs.Sheet.{day_sheet}
 use Rattle.pawn_host.proofs.RunLemmas.{acted_text, view_request, plain, step_past_gate}
 use Rattle.pawn_host.specs.Common.{BookValue, Host, Listed, Out, Request, Says, SaysRequest, Stamp, View, host_step}
 use Rattle.pawn_host.specs.Common.{reply_text}
-use Rattle.pawn_host.specs.Keeps.{GoesTo, IsActed, IsKeyOf, Kept, Start, Tells, answer_bytes}
+use Rattle.pawn_host.specs.Keeps.{GoesTo, IsActed, IsKeyOf, Kept, Start, States, answer_bytes}
 use Rattle.pawn_host.specs.declared.service.Answer.{Answer}
 use Rattle.pawn_view.proofs.StatementLemmas.{some_same}
 use Rattle.pawn_view.specs.Sheets.{book_sheet, sheet_of}
@@ -32,10 +32,10 @@ no_sheet h book key day with_key none = (let some = sym (sheet_is h book key day
 -- the answer has the sheet
 pub acted_sheet : (start : Start) (stamp : Stamp) (bytes : List ℕ) (answer : Answer) (kept : Kept) (book key day shown : ℕ) (text out : List ℕ)
     → SaysRequest bytes (Ok (sheet_request book key day)) → IsKeyOf start.host book key → shown ≡ day → sheet_of start.host book shown ≡ Some text → text ≡ out
-    → Tells answer (reply_text 200 plain out) → GoesTo kept start.host start.leaves → IsActed start stamp bytes (answer_bytes answer) kept
-acted_sheet start stamp bytes answer kept book key day shown text out read with_key day_is is all tells goes =
+    → States answer (reply_text 200 plain out) → GoesTo kept start.host start.leaves → IsActed start stamp bytes (answer_bytes answer) kept
+acted_sheet start stamp bytes answer kept book key day shown text out read with_key day_is is all states goes =
     let step = step_sheet start.host start.operator stamp book key day with_key in
     let same : out ≡ book_sheet day with_key.0 =
     sym all ∙ sym (some_same (sym (sheet_is start.host book key shown with_key) ∙ is)) ∙ ap (λ (x : ℕ). book_sheet x with_key.0) day_is in
     acted_text start stamp bytes answer kept (sheet_request book key day) (book_listed day with_key.0) plain out read step
-    (ap (reply_text 200 plain) same) tells goes
+    (ap (reply_text 200 plain) same) states goes

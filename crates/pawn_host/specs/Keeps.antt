@@ -25,9 +25,9 @@ abbrev pub IsKeyOf : Host → ℕ → ℕ → Type 0
 IsKeyOf h book key = (at : BookValue) × (get h.books book ≡ Some at) × (at.key ≡ key)
 
 -- the answer has this text, or is `Memory`
-abbrev pub Tells : Answer → List ℕ → Type 0
-Tells (Answer.Bytes v) text = v.items ≡ text
-Tells Answer.Memory text = Unit {0}
+abbrev pub States : Answer → List ℕ → Type 0
+States (Answer.Bytes v) text = v.items ≡ text
+States Answer.Memory text = Unit {0}
 
 -- the start of a call of the service: whether its keeper is steady, the operator's key, the host, and the hosts that a
 -- crash may leave
@@ -63,8 +63,8 @@ pub record StaysOpen {K : Type 0} (k : Keeping K) (old new : Service K) : Type 0
 
 -- for each sound host that the service's keeper stood for: if the keeper is honest now, P holds of the start of the
 -- call and of the keeper after it
-abbrev pub Serves : {K : Type 0} → Keeping K → Service K → Service K → (Start → Kept → Type 0) → Type 0
-Serves k old new P = OfHost k (service_keep old) (service_keep new) (λ h. P (start_of k old h) (kept_by k new))
+abbrev pub ForEachStart : {K : Type 0} → Keeping K → Service K → Service K → (Start → Kept → Type 0) → Type 0
+ForEachStart k old new P = OfHost k (service_keep old) (service_keep new) (λ h. P (start_of k old h) (kept_by k new))
 
 -- for some mark, one item of a run led to the reply, to the host of the keeper after it, and to the hosts that a crash
 -- may leave

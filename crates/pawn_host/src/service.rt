@@ -1,11 +1,11 @@
 //! The service over a keeper: it answers one request, or a list of them.
-ghost use Rattle.pawn_book.specs.Plans.{IsWritten};
+ghost use Rattle.pawn_book.specs.Plans.{MayChange};
 ghost use Rattle.pawn_book.specs.declared.request.View.TheVariants.{Pledge, Rows, Sheet};
 ghost use Rattle.pawn_host.specs.Common.{Bearer, Present, Viewer, out_text};
 ghost use Rattle.pawn_host.specs.Headline.{IsRunOfSlots};
-ghost use Rattle.pawn_host.specs.Keeps.{IsActed, IsRun, Serves, StaysOpen, Tells, answer_bytes, service_keep};
+ghost use Rattle.pawn_host.specs.Keeps.{IsActed, IsRun, ForEachStart, StaysOpen, States, answer_bytes, service_keep};
 ghost use Rattle.pawn_host.specs.Keeps.{service_operator};
-ghost use Rattle.pawn_host.specs.Views.{ServesHolder, ServesRequest, TellsView};
+ghost use Rattle.pawn_host.specs.Views.{AnswersHolder, AnswersRequest, StatesView};
 ghost use Rattle.std.specs.Prelude.{◌≡◌, IfOk, OnErr, map};
 ghost use Rattle.pawn_reply.specs.declared.reply.Out.TheVariants as wire;
 
@@ -41,7 +41,7 @@ pub struct Service<K> {
 
 /// Returns the answer with this content, or `Memory` if memory runs out for its bytes.
 fn contents_answer(alloc: Global, out: Out) -> Answer
-    ensures tells { Tells result (out_text out) }
+    ensures states { States result (out_text out) }
 {
     match into_reply(alloc, out) {
         Ok(bytes) => Answer::Bytes(bytes),
@@ -51,7 +51,7 @@ fn contents_answer(alloc: Global, out: Out) -> Answer
 
 /// Returns the answer to a request that is refused.
 fn refuse(alloc: Global, refusal: Refusal) -> Answer
-    ensures tells { Tells result (out_text (wire.Refused refusal)) }
+    ensures states { States result (out_text (wire.Refused refusal)) }
 {
     contents_answer(alloc, Out::Refused(refusal))
 }
@@ -66,7 +66,7 @@ fn write_done(alloc: Global, reply: Reply) -> Result<Vec<u8>, AllocError>
 /// Returns the answer to a view: the text if it was written completely, and the refusal `unknown` if there is nothing
 /// to show. Otherwise the answer is `Memory` or the refusal `Store`.
 fn view_answer(alloc: Global, shown: Result<(), ViewFault>, text: Out, unknown: Refusal) -> Answer
-    ensures tells { TellsView result shown (out_text text) unknown }
+    ensures states { StatesView result shown (out_text text) unknown }
 {
     match shown {
         Ok(()) => contents_answer(alloc, text),
@@ -108,7 +108,7 @@ impl<K: Keep> Service<K> {
     /// of the reply has its length.
     fn show_receipts(&mut self, stamp: &Stamp, book: Number, receipts: &Receipts) -> Answer
         ensures stays { StaysOpen K.keeping self.old self.new }
-        ensures acted { ServesRequest K.keeping self.old self.new stamp.now (record { book = book; caller = Bearer (Present receipts.now) }) result }
+        ensures acted { AnswersRequest K.keeping self.old self.new stamp.now (record { book = book; caller = Bearer (Present receipts.now) }) result }
     {
         let mut writer = Writing::new(Vec::new(self.alloc));
         let day = stamp.day.day();
@@ -120,7 +120,7 @@ impl<K: Keep> Service<K> {
     /// Checks the key of a book, and shows the view to the holder of the key.
     fn gate_and_show(&mut self, stamp: &Stamp, book: Number, key: Secret, view: View) -> Answer
         ensures stays { StaysOpen K.keeping self.old self.new }
-        ensures acted { ServesRequest K.keeping self.old self.new stamp.now (record { book = book; caller = Viewer key view }) result }
+        ensures acted { AnswersRequest K.keeping self.old self.new stamp.now (record { book = book; caller = Viewer key view }) result }
     {
         match gate(&mut self.keep, book, key) {
             Err(refusal) => return refuse(self.alloc, refusal),
@@ -132,7 +132,7 @@ impl<K: Keep> Service<K> {
     /// Shows a view of a book whose key has been checked.
     fn show_past_gate(&mut self, stamp: &Stamp, book: Number, key: Secret, view: View) -> Answer
         ensures stays { StaysOpen K.keeping self.old self.new }
-        ensures acted { ServesHolder K.keeping self.old self.new stamp.now book key view result }
+        ensures acted { AnswersHolder K.keeping self.old self.new stamp.now book key view result }
     {
         match view {
             View::Pledge(number) => self.show_pledge(stamp, book, key, number),
@@ -144,7 +144,7 @@ impl<K: Keep> Service<K> {
     /// Shows a pledge of a book whose key has been checked.
     fn show_pledge(&mut self, stamp: &Stamp, book: Number, key: Secret, number: Number) -> Answer
         ensures stays { StaysOpen K.keeping self.old self.new }
-        ensures acted { ServesHolder K.keeping self.old self.new stamp.now book key (Pledge number) result }
+        ensures acted { AnswersHolder K.keeping self.old self.new stamp.now book key (Pledge number) result }
     {
         let mut writer = Writing::new(Vec::new(self.alloc));
         let day = stamp.day.day();
@@ -156,7 +156,7 @@ impl<K: Keep> Service<K> {
     /// Shows the sheet of a day of a book whose key has been checked.
     fn show_sheet(&mut self, stamp: &Stamp, book: Number, key: Secret, day: RequestDay) -> Answer
         ensures stays { StaysOpen K.keeping self.old self.new }
-        ensures acted { ServesHolder K.keeping self.old self.new stamp.now book key (Sheet day) result }
+        ensures acted { AnswersHolder K.keeping self.old self.new stamp.now book key (Sheet day) result }
     {
         let mut writer = Writing::new(Vec::new(self.alloc));
         let shown = show_day_sheet(&mut self.keep, book, day.day(), &mut writer);
@@ -167,7 +167,7 @@ impl<K: Keep> Service<K> {
     /// Exports the rows of a book whose key has been checked.
     fn show_rows(&mut self, stamp: &Stamp, book: Number, key: Secret) -> Answer
         ensures stays { StaysOpen K.keeping self.old self.new }
-        ensures acted { ServesHolder K.keeping self.old self.new stamp.now book key Rows result }
+        ensures acted { AnswersHolder K.keeping self.old self.new stamp.now book key Rows result }
     {
         let mut rows = RowWriter::new(self.alloc, Vec::new(self.alloc));
         let shown = export(&mut self.keep, book, &mut rows);
@@ -179,7 +179,7 @@ impl<K: Keep> Service<K> {
     fn answer_bearer(&mut self, stamp: &Stamp, request: &Request, asked: &BearerRequest) -> Answer
         requires asks { request.now.caller ≡ Bearer asked.now }
         ensures stays { StaysOpen K.keeping self.old self.new }
-        ensures acted { ServesRequest K.keeping self.old self.new stamp.now request.now result }
+        ensures acted { AnswersRequest K.keeping self.old self.new stamp.now request.now result }
     {
         match asked {
             BearerRequest::Present(receipts) => self.show_receipts(stamp, request.book, receipts),
@@ -189,9 +189,9 @@ impl<K: Keep> Service<K> {
 
     /// Acts on a request that may change its book. The reply is built before the change is saved.
     fn act(&mut self, stamp: &Stamp, request: &Request) -> Answer
-        requires written { IsWritten request.now.caller }
+        requires changes { MayChange request.now.caller }
         ensures stays { StaysOpen K.keeping self.old self.new }
-        ensures acted { ServesRequest K.keeping self.old self.new stamp.now request.now result }
+        ensures acted { AnswersRequest K.keeping self.old self.new stamp.now request.now result }
     {
         let (reply, done) = {
             let planned = match plan(self.alloc, &mut self.keep, self.operator, stamp, request) {
@@ -212,7 +212,7 @@ impl<K: Keep> Service<K> {
     /// Answers a request.
     fn answer_request(&mut self, stamp: &Stamp, request: &Request) -> Answer
         ensures stays { StaysOpen K.keeping self.old self.new }
-        ensures acted { ServesRequest K.keeping self.old self.new stamp.now request.now result }
+        ensures acted { AnswersRequest K.keeping self.old self.new stamp.now request.now result }
     {
         match &request.caller {
             Caller::Operator { .. } => self.act(stamp, request),
@@ -225,7 +225,7 @@ impl<K: Keep> Service<K> {
     /// Answers bytes that should be one whole request. If they are not, the answer reports their fault.
     pub fn answer_one(&mut self, stamp: &Stamp, bytes: &[u8]) -> Answer
         ensures stays { StaysOpen K.keeping self.old self.new }
-        ensures acted { Serves K.keeping self.old self.new (λ start. IsActed start stamp.now bytes.now (answer_bytes result)) }
+        ensures acted { ForEachStart K.keeping self.old self.new (λ start. IsActed start stamp.now bytes.now (answer_bytes result)) }
     {
         let request = match read_request(self.alloc, &self.router, bytes) {
             Ok(request) => request,
@@ -238,9 +238,9 @@ impl<K: Keep> Service<K> {
     /// fails before anything is done.
     pub fn run(&mut self, items: &[(Stamp, Vec<u8>)]) -> Result<Vec<Answer>, AllocError>
         ensures stays { StaysOpen K.keeping self.old self.new }
-        ensures run { IfOk result (λ answers. Serves K.keeping self.old self.new
+        ensures run { IfOk result (λ answers. ForEachStart K.keeping self.old self.new
             (λ start. IsRun start (map (λ p. (p.0, p.1.items)) items.now) (map answer_bytes answers.items))) }
-        ensures headline { IfOk result (λ answers. Serves K.keeping self.old self.new
+        ensures headline { IfOk result (λ answers. ForEachStart K.keeping self.old self.new
             (λ start. IsRunOfSlots start (map (λ p. (p.0, p.1.items)) items.now) (map answer_bytes answers.items))) }
         ensures err { OnErr result (self.new ≡ self.old) }
     {

@@ -3,7 +3,7 @@ ghost use Rattle.pawn_host.specs.Common.{Keeps, prepend_known, write_failed, wri
 ghost use Rattle.pawn_host.specs.Ends.{left_of, read_failed, reads};
 ghost use Rattle.pawn_host.specs.Finding.{FilledBy, FindsHead, FindsRest, HasHead, IsCausedBy, IsFetched, IsFilled};
 ghost use Rattle.pawn_host.specs.Finding.{StopsBy};
-ghost use Rattle.pawn_host.specs.Keeps.{Serves, StaysOpen, answer_bytes};
+ghost use Rattle.pawn_host.specs.Keeps.{ForEachStart, StaysOpen, answer_bytes};
 ghost use Rattle.pawn_host.specs.Limits.{most_request_bytes};
 ghost use Rattle.pawn_host.specs.Session.{AreTaken, IsFinished, IsOver, IsReadWhileWanted, IsSession, IsWithinMost};
 ghost use Rattle.pawn_host.specs.Unanswered.{unanswered};
@@ -282,7 +282,7 @@ impl<K: Keep> Service<K> {
         requires fine { write_failed writer.old ≡ false }
         requires can { I.can_next stamps.old }
         ensures stays { StaysOpen K.keeping self.old self.new }
-        ensures session { Serves K.keeping self.old self.new (λ start. IsSession I.next_gives (record {
+        ensures session { ForEachStart K.keeping self.old self.new (λ start. IsSession I.next_gives (record {
           start = start;
           stamps = stamps.old;
           stream =

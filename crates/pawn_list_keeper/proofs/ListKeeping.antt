@@ -11,10 +11,10 @@ use Rattle.std.specs.FinMap.{get}
 -- a read returns what is true of the list's host
 pub list_reads : (k : Books) (P : Host → Type 0) → P (host_of k) → Reads list_keeping k k P
 list_reads k P told = record {
-  on = record { was_honest = λ honest. honest; served = λ honest now. now; stays = λ steady. steady; whole = λ honest whole. whole };
+  on = record { was_honest = λ honest. honest; was_usable = λ honest now. now; stays = λ steady. steady; whole = λ honest whole. whole };
   same = λ honest h is. is;
   back = λ honest now h is. is;
-  tells = λ honest h is. subst P (sym is) told;
+  states = λ honest h is. subst P (sym is) told;
   crash = λ honest h left. left;
 }
 

@@ -92,8 +92,8 @@ SavesListed old change (Err Full) new = (new ≡ old) × (old.limit < rows (with
 SavesListed old change (Err Memory) new = new ≡ old
 SavesListed old change (Err (Store fault)) new = ⊥
 
--- A list is always honest and steady, always serves, and stands for its host alone. As a model of a crash it leaves
+-- A list is always honest, usable and steady, and stands for its host alone. As a model of a crash it leaves
 -- that host. It is whole if the host is sound.
 abbrev pub list_keeping : Keeping Books
 list_keeping =
-    record { stands = λ k h. h ≡ host_of k; honest = λ k. ⊤; serves = λ k. ⊤; steady = λ k. ⊤; leaves = λ k h. h ≡ host_of k; whole = λ k. IsSound (host_of k) }
+    record { stands = λ k h. h ≡ host_of k; honest = λ k. ⊤; usable = λ k. ⊤; steady = λ k. ⊤; leaves = λ k h. h ≡ host_of k; whole = λ k. IsSound (host_of k) }

@@ -3,7 +3,7 @@ use Rattle.pawn_move.proofs.Basics.{clean_before, rests_then, carried_none, carr
 use Rattle.pawn_move.proofs.Reading.{handed, tell_then}
 use Rattle.pawn_move.specs.Moving.{AreOwedIn, IsNextChecked, ListFirstDebts}
 use Rattle.pawn_opening.specs.Common.{HasCleanDisk, State, Host, IsLent}
-use Rattle.pawn_saving.specs.Writing.{IsCarried}
+use Rattle.pawn_saving.specs.RowWrites.{IsCarried}
 use Rattle.pawn_tables.specs.Common.{IsNextBook, HasUnsoundBook, IsUnsoundAt, KeepError, Rests}
 use Rattle.pawn_tables.specs.Finding.{Finds, FindsOf}
 use Rattle.pawn_tables.specs.StandsFor.{ListDebts}

@@ -11,4 +11,4 @@ pub mod Migrates
 pub mod Moved
 pub mod Owed
 pub mod Reading
-pub mod ToldSchema
+pub mod SchemaNumbers

@@ -1,9 +1,9 @@
 -- A store's schema is read, and the store is migrated if that is an older one.
 use Rattle.pawn_move.proofs.Basics.{MoveFault, NotOurs, NewerSchema, Damaged, Store, Memory}
-use Rattle.pawn_move.proofs.ToldSchema.{third_is_ours}
-use Rattle.pawn_move.specs.Migrating.{HoldMoved, HoldSameHost, IsFailure, IsMoved, IsNotOurs, IsUnmovable, IsUntellable}
+use Rattle.pawn_move.proofs.SchemaNumbers.{third_is_ours}
+use Rattle.pawn_move.specs.Migrating.{HoldMoved, HoldSameHost, IsFailure, IsMoved, IsNotOurs, IsUnmovable, HasNoKnownSchema}
 use Rattle.pawn_move.specs.Migrating.{Migrates, MigratesIndexed, MigratesOwed, MovesStore, MovesStoreIndexed}
-use Rattle.pawn_move.specs.Migrating.{MovesStoreOwed, TellsNumber, move_fault_of}
+use Rattle.pawn_move.specs.Migrating.{MovesStoreOwed, StatesNumber, move_fault_of}
 use Rattle.pawn_move.specs.StandsUnder.{IsSchema, StandsUnder}
 use Rattle.pawn_opening.proofs.Begun.{held, opens_as}
 use Rattle.pawn_opening.proofs.Gained.{gains_stands}
@@ -50,7 +50,7 @@ failing s n h Damaged none = absurd none
 failing s n h Store it = tt
 failing s n h Memory it = tt
 
-untellable : (db : Tables) (why : MoveFault) → IsFailure why → IsUntellable db why
+untellable : (db : Tables) (why : MoveFault) → IsFailure why → HasNoKnownSchema db why
 untellable db NotOurs none = absurd none
 untellable db NewerSchema none = absurd none
 untellable db Damaged none = none
@@ -63,7 +63,7 @@ module _ (s0 s1 : State) (last : IsTrue s0.is_open → (trees : Trees) → s0.ma
 
   -- ---- a schema that cannot be read
 
-  unmovable : (why : MoveFault) → IsUntellable s0.now why → IsUnmovable s0.now why
+  unmovable : (why : MoveFault) → HasNoKnownSchema s0.now why → IsUnmovable s0.now why
   unmovable NotOurs it = it
   unmovable NewerSchema it = it
   unmovable Damaged none = absurd none
@@ -77,7 +77,7 @@ module _ (s0 s1 : State) (last : IsTrue s0.is_open → (trees : Trees) → s0.ma
   bare Store it = it
   bare Memory it = it
 
-  pub not_told : (why : MoveFault) → TellsNumber s0 s1 (Err why) → Migrates s0 s1 (Err why)
+  pub not_told : (why : MoveFault) → StatesNumber s0 s1 (Err why) → Migrates s0 s1 (Err why)
   not_told why it = record {
     found = λ clean. tt;
     moved = λ clean n h schema none st. failing s1 n h why (it.stands clean n h schema st);
@@ -91,7 +91,7 @@ module _ (s0 s1 : State) (last : IsTrue s0.is_open → (trees : Trees) → s0.ma
 
   -- ---- the program's, which gets the indexes that it lacks
 
-  module _ (s2 : State) (from : ℕ) (three : from ≡ 3) (it : TellsNumber s0 s1 (Ok from)) (r : Result (Unit {0}) OpenFault) (added : IndexesStore s1 s2 r) where
+  module _ (s2 : State) (from : ℕ) (three : from ≡ 3) (it : StatesNumber s0 s1 (Ok from)) (r : Result (Unit {0}) OpenFault) (added : IndexesStore s1 s2 r) where
     before : HasCleanDisk s2 → HasCleanDisk s1
     before clean = let up = added.survives.clean in omega (arith, clean, up)
 
@@ -112,7 +112,7 @@ module _ (s0 s1 : State) (last : IsTrue s0.is_open → (trees : Trees) → s0.ma
         absurd (omega (arith, told, three, less))
 
   pub stays : StandForOne → (s2 : State) → (IsTrue s2.is_open → (trees : Trees) → s2.may_leave trees → trees ≡ s2.committed.trees) → (from : ℕ) → from ≡ 3
-      → TellsNumber s0 s1 (Ok from) → IndexesStore s1 s2 (Ok tt) → Migrates s0 s2 (Ok (from, 3))
+      → StatesNumber s0 s1 (Ok from) → IndexesStore s1 s2 (Ok tt) → Migrates s0 s2 (Ok (from, 3))
   stays one s2 left from three it added = record {
     found = λ clean. ((it.ok (before s2 from three it (Ok tt) added clean)).0, it.known, refl);
     moved = λ clean n h schema none st. let was = before s2 from three it (Ok tt) added clean in
@@ -126,13 +126,13 @@ module _ (s0 s1 : State) (last : IsTrue s0.is_open → (trees : Trees) → s0.ma
     crash = crashed s0 s2 last (indexed s2 from three it (Ok tt) added);
   }
 
-  pub stays_indexed : (s2 : State) (from : ℕ) → from ≡ 3 → TellsNumber s0 s1 (Ok from) → IndexesStore s1 s2 (Ok tt) → MigratesIndexed s0 s2 (Ok (from, 3))
+  pub stays_indexed : (s2 : State) (from : ℕ) → from ≡ 3 → StatesNumber s0 s1 (Ok from) → IndexesStore s1 s2 (Ok tt) → MigratesIndexed s0 s2 (Ok (from, 3))
   stays_indexed s2 from three it added clean = let was = before s2 from three it (Ok tt) added clean in (
     λ told. subst (λ (d : Tables). GainsIndexes (lacking d.schema) d s2.now) ((it.same was).now (it.ok was).1) (added.ok clean (it.ok was).1).1,
     λ n h schema less none st. let told : from ≡ n = it.stands was n h schema st in absurd (omega (arith, told, three, less)),
   )
 
-  pub not_indexed : (s2 : State) (from : ℕ) → from ≡ 3 → TellsNumber s0 s1 (Ok from) → (cause : OpenFault) → IndexesStore s1 s2 (Err cause) → (why : MoveFault)
+  pub not_indexed : (s2 : State) (from : ℕ) → from ≡ 3 → StatesNumber s0 s1 (Ok from) → (cause : OpenFault) → IndexesStore s1 s2 (Err cause) → (why : MoveFault)
       → IsFailure why → Migrates s0 s2 (Err why)
   not_indexed s2 from three it cause added why failure = record {
     found = λ clean. tt;
@@ -147,7 +147,7 @@ module _ (s0 s1 : State) (last : IsTrue s0.is_open → (trees : Trees) → s0.ma
 
   -- ---- an older one
 
-  module _ (s2 : State) (from : ℕ) (it : TellsNumber s0 s1 (Ok from)) (r : Result (Unit {0}) KeepError) (mv : MovesStore from s1 s2 r) where
+  module _ (s2 : State) (from : ℕ) (it : StatesNumber s0 s1 (Ok from)) (r : Result (Unit {0}) KeepError) (mv : MovesStore from s1 s2 r) where
     early : HasCleanDisk s2 → HasCleanDisk s1
     early clean = let up = mv.survives.clean in omega (arith, clean, up)
 
@@ -164,7 +164,7 @@ module _ (s0 s1 : State) (last : IsTrue s0.is_open → (trees : Trees) → s0.ma
         → Finds r (λ done. OpensAs s2 h) (HasUnsoundBook h)
     moves clean n h schema none st = mv.moved clean h none (on (early clean) n h schema st).1
 
-  pub went : (s2 : State) (from : ℕ) → TellsNumber s0 s1 (Ok from) → MovesStore from s1 s2 (Ok tt) → Migrates s0 s2 (Ok (from, 3))
+  pub went : (s2 : State) (from : ℕ) → StatesNumber s0 s1 (Ok from) → MovesStore from s1 s2 (Ok tt) → Migrates s0 s2 (Ok (from, 3))
   went s2 from it mv = record {
     found = λ clean. ((it.ok (early s2 from it (Ok tt) mv clean)).0, it.known, refl);
     moved = λ clean n h schema none st. let told = (on s2 from it (Ok tt) mv (early s2 from it (Ok tt) mv clean) n h schema st).0 in
@@ -177,18 +177,18 @@ module _ (s0 s1 : State) (last : IsTrue s0.is_open → (trees : Trees) → s0.ma
     crash = crashed s0 s2 last (survived s2 from it (Ok tt) mv);
   }
 
-  pub went_owed : (s2 : State) (from : ℕ) → TellsNumber s0 s1 (Ok from) → MovesStore from s1 s2 (Ok tt) → MovesStoreOwed from s1 s2 (Ok tt)
+  pub went_owed : (s2 : State) (from : ℕ) → StatesNumber s0 s1 (Ok from) → MovesStore from s1 s2 (Ok tt) → MovesStoreOwed from s1 s2 (Ok tt)
       → MigratesOwed s0 s2 (Ok (from, 3))
   went_owed s2 from it mv owed clean n h schema less none st = owed clean h none (on s2 from it (Ok tt) mv (early s2 from it (Ok tt) mv clean) n h schema st).1
 
-  pub went_indexed : (s2 : State) (from : ℕ) → (from ≡ 3 → ⊥) → TellsNumber s0 s1 (Ok from) → MovesStore from s1 s2 (Ok tt)
+  pub went_indexed : (s2 : State) (from : ℕ) → (from ≡ 3 → ⊥) → StatesNumber s0 s1 (Ok from) → MovesStore from s1 s2 (Ok tt)
       → MovesStoreIndexed from s1 s2 (Ok tt) → MigratesIndexed s0 s2 (Ok (from, 3))
   went_indexed s2 from not it mv indexed clean = (
     λ three. absurd (not three),
     λ n h schema less none st. indexed clean h none (on s2 from it (Ok tt) mv (early s2 from it (Ok tt) mv clean) n h schema st).1,
   )
 
-  pub failed : (s2 : State) (from : ℕ) (e : KeepError) → TellsNumber s0 s1 (Ok from) → MovesStore from s1 s2 (Err e) → Migrates s0 s2 (Err (move_fault_of e))
+  pub failed : (s2 : State) (from : ℕ) (e : KeepError) → StatesNumber s0 s1 (Ok from) → MovesStore from s1 s2 (Err e) → Migrates s0 s2 (Err (move_fault_of e))
   failed s2 from e it mv = record {
     found = λ clean. tt;
     moved = λ clean n h schema none st. unmoved n h e (moves s2 from it (Err e) mv clean n h schema none st);

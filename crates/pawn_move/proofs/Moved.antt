@@ -9,7 +9,7 @@ use Rattle.pawn_move.specs.StandsUnder.{HasNoExtension, StandsUnder}
 use Rattle.pawn_opening.specs.Common.{Row, HasCleanDisk, State, Host, IsLent, Holds, Lists, with_rows, StandsFor}
 use Rattle.pawn_opening.specs.Laying.{AddsTable}
 use Rattle.pawn_opening.specs.declared.indexing.Lacking.{Lacking}
-use Rattle.pawn_saving.specs.Writing.{IsCarried}
+use Rattle.pawn_saving.specs.RowWrites.{IsCarried}
 use Rattle.pawn_tables.proofs.BookReads.{below_key}
 use Rattle.pawn_tables.specs.Common.{entries, entries_sorted, find_key, get, get-entries, is_sorted, nat_cmp, Tables}
 use Rattle.pawn_tables.specs.Common.{PledgeValue, Each, BookValue, HasUnsoundBook, KeepError, NoRecord, Rests}

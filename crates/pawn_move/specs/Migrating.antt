@@ -23,18 +23,18 @@ abbrev pub StandsForNoSound : Tables → Type 0
 StandsForNoSound db = (n : ℕ) (h : Host) → IsSchema n → StandsUnder n db h → HasUnsoundBook h
 
 -- what holds of the tables of a store whose schema is not reported, for this reason
-abbrev pub IsUntellable : Tables → MoveFault → Type 0
-IsUntellable db NotOurs = NotesNoSchema db ⊎ NotesSchema db 0
-IsUntellable db NewerSchema = (n : ℕ) × NotesSchema db n × (3 < n)
-IsUntellable db Damaged = ⊥
-IsUntellable db Store = Unit {0}
-IsUntellable db Memory = Unit {0}
+abbrev pub HasNoKnownSchema : Tables → MoveFault → Type 0
+HasNoKnownSchema db NotOurs = NotesNoSchema db ⊎ NotesSchema db 0
+HasNoKnownSchema db NewerSchema = (n : ℕ) × NotesSchema db n × (3 < n)
+HasNoKnownSchema db Damaged = ⊥
+HasNoKnownSchema db Store = Unit {0}
+HasNoKnownSchema db Memory = Unit {0}
 
 -- what holds of the tables of a store that is not migrated, for this reason; the reason is Damaged only if the store
 -- notes one of the program's schemas 1 to 3, and stands for no sound host
 abbrev pub IsUnmovable : Tables → MoveFault → Type 0
 IsUnmovable db Damaged = ((n : ℕ) × NotesSchema db n × IsSchema n) × StandsForNoSound db
-IsUnmovable db why = IsUntellable db why
+IsUnmovable db why = HasNoKnownSchema db why
 
 -- the fault is Store or Memory, which state nothing about the content of the store
 abbrev pub IsFailure : MoveFault → Type 0
@@ -46,7 +46,7 @@ IsFailure Memory = Unit {0}
 
 -- the answer for an empty store: NotOurs, or Store or Memory
 abbrev pub IsNotOurs : {A : Type 0} → Result A MoveFault → Type 0
-IsNotOurs (Ok told) = ⊥
+IsNotOurs (Ok answer) = ⊥
 IsNotOurs (Err NotOurs) = Unit {0}
 IsNotOurs (Err why) = IsFailure why
 
@@ -66,9 +66,9 @@ move_fault_of (Keeper.Store Database) = Store
 -- ---- the schema that is reported
 
 -- the answer for tables that stand for a host under schema n: n, or Store or Memory
-abbrev pub IsMoveTold : ℕ → Result ℕ MoveFault → Type 0
-IsMoveTold n (Ok m) = m ≡ n
-IsMoveTold n (Err why) = IsFailure why
+abbrev pub IsSameNumber : ℕ → Result ℕ MoveFault → Type 0
+IsSameNumber n (Ok m) = m ≡ n
+IsSameNumber n (Err why) = IsFailure why
 
 -- the result of checking the number that a store notes
 abbrev pub KnowsSchema : Option ℕ → Result ℕ MoveFault → Type 0
@@ -80,11 +80,11 @@ KnowsSchema noted (Err Store) = ⊥
 KnowsSchema noted (Err Memory) = ⊥
 
 -- the answer is the number of the store's schema, and the store is as before
-pub record TellsNumber (old new : State) (result : Result ℕ MoveFault) : Type 0 where
+pub record StatesNumber (old new : State) (result : Result ℕ MoveFault) : Type 0 where
   pub known : IfOk result IsSchema
   pub ok : HasCleanDisk new → IfOk result (λ n. NotesSchema old.now n × IsTrue new.is_open)
-  pub stands : HasCleanDisk new → (n : ℕ) (h : Host) → IsSchema n → StandsUnder n old.now h → IsMoveTold n result
-  pub refuses : HasCleanDisk new → IfErr result (IsUntellable old.now)
+  pub stands : HasCleanDisk new → (n : ℕ) (h : Host) → IsSchema n → StandsUnder n old.now h → IsSameNumber n result
+  pub refuses : HasCleanDisk new → IfErr result (HasNoKnownSchema old.now)
   pub empty : HasCleanDisk new → IsEmptyStore old.now → IsNotOurs result
   pub same : HasCleanDisk new → IsAsBefore old new
   pub ended : new.in_transaction ≡ false
@@ -96,7 +96,7 @@ pub record TellsNumber (old new : State) (result : Result ℕ MoveFault) : Type 
 -- same host under the program's schema, with no transaction under way. Damaged: the host has a book that is not sound.
 -- Otherwise Store or Memory.
 abbrev pub IsMoved : ℕ → Host → State → Result (ℕ × ℕ) MoveFault → Type 0
-IsMoved n h new (Ok told) = (told ≡ (n, 3)) × OpensAs new h
+IsMoved n h new (Ok answer) = (answer ≡ (n, 3)) × OpensAs new h
 IsMoved n h new (Err NotOurs) = ⊥
 IsMoved n h new (Err NewerSchema) = ⊥
 IsMoved n h new (Err Damaged) = HasUnsoundBook h
@@ -112,7 +112,7 @@ HoldSameHost old trees = (n : ℕ) (h : Host) → IsSchema n → get h.books 0 �
 -- open, with no transaction under way, for the host that its tables stood for, if no book of the host has the number 0.
 -- After an error it is as before. A crash leaves the old tables or the new ones.
 pub record Migrates (old new : State) (result : Result (ℕ × ℕ) MoveFault) : Type 0 where
-  pub found : HasCleanDisk new → IfOk result (λ told. NotesSchema old.now told.0 × IsSchema told.0 × (told.1 ≡ 3))
+  pub found : HasCleanDisk new → IfOk result (λ answer. NotesSchema old.now answer.0 × IsSchema answer.0 × (answer.1 ≡ 3))
   pub moved : HasCleanDisk new → (n : ℕ) (h : Host) → IsSchema n → get h.books 0 ≡ None → StandsUnder n old.now h → IsMoved n h new result
   pub refuses : HasCleanDisk new → IfErr result (IsUnmovable old.now)
   pub empty : HasCleanDisk new → IsEmptyStore old.now → IsNotOurs result
@@ -125,13 +125,13 @@ pub record Migrates (old new : State) (result : Result (ℕ × ℕ) MoveFault) :
 -- tables of an older schema are migrated only if every debt of the host is reachable
 abbrev pub MigratesOwed : State → State → Result (ℕ × ℕ) MoveFault → Type 0
 MigratesOwed old new result =
-    HasCleanDisk new → (n : ℕ) (h : Host) → IsSchema n → n < 3 → get h.books 0 ≡ None → StandsUnder n old.now h → IfOk result (λ told. AreAllOwed h)
+    HasCleanDisk new → (n : ℕ) (h : Host) → IsSchema n → n < 3 → get h.books 0 ≡ None → StandsUnder n old.now h → IfOk result (λ answer. AreAllOwed h)
 
 -- A store of the program's schema gains the indexes that it lacked, and nothing else. A store of an older schema that
 -- stands for a host then has both indexes of the program, and no others but those of the keys.
 abbrev pub MigratesIndexed : State → State → Result (ℕ × ℕ) MoveFault → Type 0
 MigratesIndexed old new result =
-    HasCleanDisk new → IfOk result (λ told. (told.0 ≡ 3 → GainsIndexes (lacking old.now.schema) old.now new.now)
+    HasCleanDisk new → IfOk result (λ answer. (answer.0 ≡ 3 → GainsIndexes (lacking old.now.schema) old.now new.now)
     × ((n : ℕ) (h : Host) → IsSchema n → n < 3 → get h.books 0 ≡ None → StandsUnder n old.now h → HasBothIndexes new.now.schema))
 
 -- ---- the transaction

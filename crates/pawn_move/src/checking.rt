@@ -1,7 +1,7 @@
 //! Checks that all debts are reachable, for a store of schema 2.
 ghost use Rattle.pawn_move.specs.Moving.{AreAllOwed, AreOwedIn, IsNextChecked, ListFirstDebts};
 ghost use Rattle.pawn_opening.specs.Common.{state, Lends};
-ghost use Rattle.pawn_saving.specs.Writing.{Carries};
+ghost use Rattle.pawn_saving.specs.RowWrites.{Carries};
 ghost use Rattle.pawn_tables.specs.Common.{get, HasUnsoundBook, IsUnsoundAt};
 ghost use Rattle.pawn_tables.specs.Finding.{FindsOf};
 ghost use Rattle.std.specs.Prelude.{◌≡◌, None, is_ok};

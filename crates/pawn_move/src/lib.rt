@@ -7,10 +7,10 @@ mod fault;
 mod laws;
 mod making;
 mod migrating;
-mod telling;
+mod noted_schema;
 mod totals_inserts;
 
 pub use fault::MoveFault;
 pub use laws::the_third_is_ours;
 pub use migrating::migrate;
-pub use telling::schema_of;
+pub use noted_schema::schema_of;

@@ -8,7 +8,7 @@ ghost use Rattle.std.specs.Prelude.{◌≡◌, ◌⊎◌, false, is_ok};
 use crate::checking::check_books;
 use crate::fault::{MoveFault, unmoved};
 use crate::making::{finish, make_extensions, make_totals};
-use crate::telling::schema_of;
+use crate::noted_schema::schema_of;
 use crate::totals_inserts::put_books;
 use one_table::know_settled;
 use pawn_book::KeepError;

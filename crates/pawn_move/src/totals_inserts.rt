@@ -1,7 +1,7 @@
 //! Inserts the totals of all pledges, for a store of schema 1.
 ghost use Rattle.pawn_move.specs.Moving.{AreOwedIn, IsNextChecked, PutsAll, PutsTotals, rows_if_any, totals_of_book};
 ghost use Rattle.pawn_opening.specs.Common.{state, Lends};
-ghost use Rattle.pawn_saving.specs.Writing.{Carries};
+ghost use Rattle.pawn_saving.specs.RowWrites.{Carries};
 ghost use Rattle.pawn_tables.specs.Common.{NoRecord};
 ghost use Rattle.std.specs.Prelude.{◌≢◌, is_ok};
 ghost use Rattle.pawn_book.specs.declared.fault.KeepError.TheVariants as Keeper;

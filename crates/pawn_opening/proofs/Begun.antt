@@ -55,11 +55,11 @@ held db h st = (db.schema, st)
 -- an open store at rest whose tables stand for a host
 pub opens_as : (s : State) (h : Host) → StandForOne → IsTrue s.is_open → s.in_transaction ≡ false → s.now ≡ s.committed
     → ((trees : Trees) → s.may_leave trees → trees ≡ s.committed.trees) → StandsFor s.now h → OpensAs s h
-opens_as s h one serves ended settled left st =
+opens_as s h one usable ended settled left st =
     let crash : (trees : Trees) → s.may_leave trees
     → HoldHost trees h = λ trees may. subst (λ ts. HoldHost ts h) (sym (left trees may ∙ ap (λ (d : Database). d.trees) (sym settled))) (held s.now h st) in
     record {
-      serves = serves;
+      usable = usable;
       keeps = record { autocommit = ended; committed = λ now. settled; stands = λ now. st };
       crash = crash;
       alone = λ g l. one _ g h l.stands (crash l.trees l.left);
@@ -67,4 +67,4 @@ opens_as s h one serves ended settled left st =
 
 -- what an open store for a host has committed stands for it
 pub stands_committed : {s : State} {h : Host} → OpensAs s h → StandsFor s.committed h
-stands_committed {s} {h} it = subst (λ d. StandsFor d h) (it.keeps.committed it.serves) (it.keeps.stands it.serves)
+stands_committed {s} {h} it = subst (λ d. StandsFor d h) (it.keeps.committed it.usable) (it.keeps.stands it.usable)

@@ -164,7 +164,7 @@ gains_at old new at sql making sound limit mode tally does = go (slice_get old.s
       let made = all.1 in let now : new ≡ all.0 = ap (λ (p : Tally × Database). p.1) (same_value all.2) in
       record {
         index = record made.index { tree = next_tree old.schema; table = table.tree };
-        made = record { place = at; table = table; of = there; told = made.index; defined = made.defined; is = refl };
+        made = record { place = at; table = table; of = there; meaning = made.index; defined = made.defined; is = refl };
         loose = is_loose sql making table made.index made.defined;
         is = ap (λ (d : Database). d.schema) now ∙ made.is;
         rows = subst (λ (d : Database). KeepsRows old.schema.tables old.trees d.trees) (sym now) made.rows;

@@ -87,11 +87,11 @@ module _ (old new : State) (limit : ℕ) (r : Result (Unit {0}) OpenFault)
     clean_mid : HasCleanDisk new → HasCleanDisk mid
     clean_mid clean = let up = it.survives.clean in omega (arith, clean, up)
 
-    serves : HasCleanDisk mid → IsTrue mid.is_open
-    serves clean = (known.ok clean).0
+    usable : HasCleanDisk mid → IsTrue mid.is_open
+    usable clean = (known.ok clean).0
 
     same : (clean : HasCleanDisk mid) → mid.now ≡ old.now
-    same clean = (known.same clean).now (serves clean)
+    same clean = (known.same clean).now (usable clean)
 
     from_old : HasCleanDisk mid → IsIndexed mid new → IsIndexed old new
     from_old clean done = (done.0, subst (λ d. GainsIndexes (lacking d.schema) d new.now) (same clean) done.1, done.2)
@@ -103,9 +103,9 @@ module _ (old new : State) (limit : ℕ) (r : Result (Unit {0}) OpenFault)
 
     pub when_ours : StandForOne → (IsTrue new.is_open → (trees : Trees) → new.may_leave trees → trees ≡ new.committed.trees) → Prepares old new limit r
     when_ours one left = record {
-      opens = λ clean. openable clean r (it.ok clean (serves (clean_mid clean)));
+      opens = λ clean. openable clean r (it.ok clean (usable (clean_mid clean)));
       new_store = λ clean empty. absurd (other empty);
-      stands = λ clean h st. accepted clean h st r (it.ok clean (serves (clean_mid clean)));
+      stands = λ clean h st. accepted clean h st r (it.ok clean (usable (clean_mid clean)));
       bare = λ clean empty. absurd (other empty);
       ours = λ clean h st. it.why;
       refuses = λ clean. faults r it.why;

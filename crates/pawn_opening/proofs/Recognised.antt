@@ -1,7 +1,7 @@
 -- What the answer of a store makes of it.
 use Rattle.pawn_opening.proofs.Recognition.{answered, asks_alone, left_as_before, unanswered, unchanged}
 use Rattle.pawn_opening.specs.Common.{CompileError, Row, HasCleanDisk, State, Error, SqlInputError, READ_SCHEMA}
-use Rattle.pawn_opening.specs.Opened.{Recognises, TellsSchema}
+use Rattle.pawn_opening.specs.Opened.{Recognises, StatesSchema}
 use Rattle.pawn_opening.specs.Refusing.{IsEmptyStore, AcceptsSchema, IsNoted, IsNumberRead, IsRefusedFor, IsStoreFault}
 use Rattle.pawn_opening.specs.Refusing.{IsStrangeNumber, NotesSchema}
 use Rattle.pawn_opening.specs.declared.fault.OpenFault.{OpenFault}
@@ -14,11 +14,11 @@ use Rattle.std.proofs.Common.{subst, IfErr, IfOk, IfSome}
 
 module _ (old new : State) (ended : new.in_transaction ≡ false) (survives : Survives old new (CommitsShowing READ_SCHEMA.now [] old)) where
   pub told : (rows : List Row) (r : Result (Option ℕ) OpenFault) → (HasCleanDisk new → Shown READ_SCHEMA.now [] old new rows) → IsNumberRead rows r
-      → TellsSchema old new r
+      → StatesSchema old new r
   told rows r shown read = record {
     same = λ clean. unchanged old new (answered old new rows (shown clean)).unchanged;
     ok = λ clean. noted r read clean;
-    serves = λ clean. serving r clean;
+    usable = λ clean. serving r clean;
     why = faults r read;
     ended = ended;
     survives = asks_alone old new survives;
@@ -40,21 +40,21 @@ module _ (old new : State) (ended : new.in_transaction ≡ false) (survives : Su
 
   module _ (settled : IsTrue old.is_open → old.now ≡ old.committed) (error : Error)
       (fails : HasCleanDisk new → FailsToQuery READ_SCHEMA.now [] old new error) where
-    pub untold : (f : CompileError) → error ≡ SqlInputError f → TellsSchema old new (Ok None)
+    pub untold : (f : CompileError) → error ≡ SqlInputError f → StatesSchema old new (Ok None)
     untold f is = record {
       same = λ clean. left_as_before old new error settled (fails clean);
       ok = λ clean. inl (unanswered f old new (subst (FailsToQuery READ_SCHEMA.now [] old new) is (fails clean)));
-      serves = λ clean. tt;
+      usable = λ clean. tt;
       why = tt;
       ended = ended;
       survives = asks_alone old new survives;
     }
 
-    pub failed : (why : OpenFault) → IsStoreFault why → TellsSchema old new (Err why)
+    pub failed : (why : OpenFault) → IsStoreFault why → StatesSchema old new (Err why)
     failed why store = record {
       same = λ clean. left_as_before old new error settled (fails clean);
       ok = λ clean. tt;
-      serves = λ clean. tt;
+      usable = λ clean. tt;
       why = store;
       ended = ended;
       survives = asks_alone old new survives;
@@ -65,9 +65,9 @@ module _ (old new : State) (ended : new.in_transaction ≡ false) (survives : Su
 module _ (old new : State) (noted : Option ℕ) (r : Result (Unit {0}) OpenFault) where
   accepted : (r' : Result (Unit {0}) OpenFault) (o : Option ℕ) → AcceptsSchema o r' → IsNoted old.now o → IfSome o (λ n. IsTrue new.is_open)
       → OnOk r' (IsTrue new.is_open × NotesSchema old.now 3)
-  accepted (Err why) o v is serves = tt
-  accepted (Ok done) None v is serves = absurd (let e = v in cc)
-  accepted (Ok done) (Some n) v is serves = let same : n ≡ 3 = (let e = v in cc) in (serves, subst (NotesSchema old.now) same is)
+  accepted (Err why) o v is usable = tt
+  accepted (Ok done) None v is usable = absurd (let e = v in cc)
+  accepted (Ok done) (Some n) v is usable = let same : n ≡ 3 = (let e = v in cc) in (usable, subst (NotesSchema old.now) same is)
 
   refused : (r' : Result (Unit {0}) OpenFault) (o : Option ℕ) → AcceptsSchema o r' → IsNoted old.now o → (IsEmptyStore old.now → ⊥)
       → IfErr r' (IsRefusedFor old.now)
@@ -81,17 +81,17 @@ module _ (old new : State) (noted : Option ℕ) (r : Result (Unit {0}) OpenFault
   refused (Err Store) o v is other = tt
   refused (Err Memory) o v is other = tt
 
-  pub accepted_schema : TellsSchema old new (Ok noted) → AcceptsSchema noted r → Recognises old new r
+  pub accepted_schema : StatesSchema old new (Ok noted) → AcceptsSchema noted r → Recognises old new r
   accepted_schema it verdict = record {
     same = it.same;
-    ok = λ clean. accepted r noted verdict (it.ok clean) (it.serves clean);
+    ok = λ clean. accepted r noted verdict (it.ok clean) (it.usable clean);
     err = λ clean other. refused r noted verdict (it.ok clean) other;
     ended = it.ended;
     survives = it.survives;
   }
 
 -- a store that did not answer
-pub unaccepted : (old new : State) (why : OpenFault) → TellsSchema old new (Err why) → Recognises old new (Err why)
+pub unaccepted : (old new : State) (why : OpenFault) → StatesSchema old new (Err why) → Recognises old new (Err why)
 unaccepted old new why it = record {
   same = it.same;
   ok = λ clean. tt;

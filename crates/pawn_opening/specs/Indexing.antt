@@ -30,9 +30,9 @@ pub record IsMadeBy (text : List ℕ) (tables : List Table) (index : Index) : Ty
   pub place : ℕ
   pub table : Table
   pub of : slice_get tables place ≡ Some table
-  pub told : Index
-  pub defined : index_defined_by table text ≡ Ok told
-  pub is : index ≡ record told { tree = index.tree; table = table.tree }
+  pub meaning : Index
+  pub defined : index_defined_by table text ≡ Ok meaning
+  pub is : index ≡ record meaning { tree = index.tree; table = table.tree }
 
 -- the index of pledges by the day on which their period ends
 abbrev pub IsByEnd : List Table → Index → Type 0

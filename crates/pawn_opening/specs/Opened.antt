@@ -21,7 +21,7 @@ Fills old new limit result = HasCleanDisk new → IsTrue old.in_transaction → 
 -- The store is open, no transaction is under way, and it stands for this host. Everything that a crash can leave of it
 -- stands for this host and for no other.
 pub record OpensAs (s : State) (h : Host) : Type 0 where
-  pub serves : IsTrue s.is_open
+  pub usable : IsTrue s.is_open
   pub keeps : Keeps s h
   pub crash : (trees : Trees) → s.may_leave trees → HoldHost trees h
   pub alone : (left : Host) → Leaves s left → left ≡ h
@@ -42,11 +42,11 @@ pub record LaysOut (old new : State) (limit : ℕ) (result : Result (Unit {0}) O
   pub survives : Survives old new (λ trees. IsEmptyStore old.now → HoldHost trees (empty_host limit))
 
 -- the answer is the number of the schema that the store notes, and the store is as before
-pub record TellsSchema (old new : State) (result : Result (Option ℕ) OpenFault) : Type 0 where
+pub record StatesSchema (old new : State) (result : Result (Option ℕ) OpenFault) : Type 0 where
   pub same : HasCleanDisk new → IsAsBefore old new
   pub ok : HasCleanDisk new → IfOk result (IsNoted old.now)
   -- if a number is returned, the store is open
-  pub serves : HasCleanDisk new → IfOk result (λ noted. IfSome noted (λ n. IsTrue new.is_open))
+  pub usable : HasCleanDisk new → IfOk result (λ noted. IfSome noted (λ n. IsTrue new.is_open))
   pub why : IfErr result IsStoreFault
   pub ended : new.in_transaction ≡ false
   pub survives : Survives old new (λ _. ⊥)

@@ -12,7 +12,10 @@ use sqlite::{Alter, Error, Transaction};
 /// Makes the program's tables and indexes in an empty store. Notes the number of the schema, the count 0 of rows, and
 /// the limit. The error is the database's own.
 #[tactic(auto, using(crate::proofs::Basics::lent_then))]
-pub(crate) fn fill<S: Alter>(tx: &mut Transaction<'_, S>, limit: u32) -> Result<(), Error>
+pub(crate) fn make_first_content<S: Alter>(
+    tx: &mut Transaction<'_, S>,
+    limit: u32,
+) -> Result<(), Error>
     ensures filled { Fills (state S.Store tx.old.conn.now) (state S.Store tx.new.conn.now) limit result }
     ensures lent { Lends S.Store tx.old.conn tx.new.conn (is_ok result) }
 {

@@ -5,7 +5,7 @@ ghost use Rattle.pawn_opening.specs.Refusing.{IsEmptyStore};
 ghost use Rattle.std.specs.Prelude.{◌≡◌, ◌↔◌, ◌≤◌, false, IsTrue};
 
 use crate::fault::{OpenFault, opening_fault};
-use crate::first_content::fill;
+use crate::first_content::make_first_content;
 use crate::indexing::add_indexes;
 use crate::recognising::recognise;
 use one_table::know_settled;
@@ -19,7 +19,7 @@ fn lay_out<S: Alter>(conn: &mut Connection<S>, limit: u32) -> Result<(), OpenFau
 {
     know_settled(conn);
     let mut tx = conn.transaction();
-    if let Err(error) = fill(&mut tx, limit) {
+    if let Err(error) = make_first_content(&mut tx, limit) {
         tx.rollback();
         return Err(opening_fault(error));
     }

@@ -1,5 +1,5 @@
 //! Recognises a store by the schema that it notes.
-ghost use Rattle.pawn_opening.specs.Opened.{Recognises, TellsSchema};
+ghost use Rattle.pawn_opening.specs.Opened.{Recognises, StatesSchema};
 ghost use Rattle.pawn_opening.specs.Refusing.{AcceptsSchema, IsNumberRead};
 ghost use Rattle.sqlite.specs.Held.{state};
 ghost use Rattle.std.specs.Prelude.{◌≡◌, false};
@@ -30,7 +30,7 @@ fn number_of(rows: &[Row]) -> Result<Option<u64>, OpenFault>
 /// `Store` or `Memory`.
 pub fn schema_noted<S: Alter>(conn: &mut Connection<S>) -> Result<Option<u64>, OpenFault>
     requires rests { conn.old.in_transaction ≡ false }
-    ensures tells { TellsSchema (state S.Store conn.old) (state S.Store conn.new) result }
+    ensures states { StatesSchema (state S.Store conn.old) (state S.Store conn.new) result }
 {
     know_settled(conn);
     match conn.query_all(READ_SCHEMA, &[]) {

@@ -68,12 +68,12 @@ abbrev pub on : ℕ → Stamp
 on day = record { day = day; word = 9 }
 
 -- the answer to a command on a day
-abbrev pub told : PledgeValue → ℕ → Command → Result Done Refusal
-told p day command = reply_of (pledge_step p (on day) command)
+abbrev pub answer_on : PledgeValue → ℕ → Command → Result Done Refusal
+answer_on p day command = reply_of (pledge_step p (on day) command)
 
 -- the pledge after a command on a day
-abbrev pub after_telling : PledgeValue → ℕ → Command → PledgeValue
-after_telling p day command = pledge_after p (pledge_step p (on day) command)
+abbrev pub changed_by : PledgeValue → ℕ → Command → PledgeValue
+changed_by p day command = pledge_after p (pledge_step p (on day) command)
 
 -- the answer to a drawing or a repayment
 abbrev pub entry_answer : ℕ → ℕ → Sort → ℕ → Done
@@ -102,57 +102,57 @@ WorkedStatuses =
 -- drawings are accepted in the period, on a running account, up to its limit
 abbrev pub WorkedPledgeDrawings : Type 0
 WorkedPledgeDrawings =
-    let drawn = after_telling (ring_on_account small) (date 2024 1 31) (Command.Draw 1 3000) in
-    (told (ring_on_account small) (date 2024 1 31) (Command.Draw 1 3000) ≡ Ok (entry_answer 1 (date 2024 1 31) Draw 3000))
-    × (told drawn (date 2024 1 31) (Command.Draw 2 2001) ≡ Err (Refusal.Debt OverLimit))
-    × (told drawn (date 2024 7 31) (Command.Draw 2 2000) ≡ Ok (entry_answer 2 (date 2024 7 31) Draw 2000))
-    × (told drawn (date 2024 8 1) (Command.Draw 2 2000) ≡ Err Refusal.Passed)
-    × (told (ring_on_account large) (date 2024 8 1) (Command.Draw 1 1) ≡ Err Refusal.PeriodOver)
-    × (told (ring large) (date 2024 1 31) (Command.Draw 1 1) ≡ Err (Refusal.Debt FixedSum))
-    × (told (ring large) (date 2024 8 1) (Command.Draw 1 1) ≡ Err Refusal.PeriodOver)
+    let drawn = changed_by (ring_on_account small) (date 2024 1 31) (Command.Draw 1 3000) in
+    (answer_on (ring_on_account small) (date 2024 1 31) (Command.Draw 1 3000) ≡ Ok (entry_answer 1 (date 2024 1 31) Draw 3000))
+    × (answer_on drawn (date 2024 1 31) (Command.Draw 2 2001) ≡ Err (Refusal.Debt OverLimit))
+    × (answer_on drawn (date 2024 7 31) (Command.Draw 2 2000) ≡ Ok (entry_answer 2 (date 2024 7 31) Draw 2000))
+    × (answer_on drawn (date 2024 8 1) (Command.Draw 2 2000) ≡ Err Refusal.Passed)
+    × (answer_on (ring_on_account large) (date 2024 8 1) (Command.Draw 1 1) ≡ Err Refusal.PeriodOver)
+    × (answer_on (ring large) (date 2024 1 31) (Command.Draw 1 1) ≡ Err (Refusal.Debt FixedSum))
+    × (answer_on (ring large) (date 2024 8 1) (Command.Draw 1 1) ≡ Err Refusal.PeriodOver)
 
 -- a repayment, and the same number sent again on any day
 abbrev pub WorkedPledgeRepayments : Type 0
 WorkedPledgeRepayments =
-    let repaid = after_telling (ring large) (date 2024 2 29) (Command.Repay 1 1000) in
+    let repaid = changed_by (ring large) (date 2024 2 29) (Command.Repay 1 1000) in
     let first = entry_answer 1 (date 2024 2 29) Repay 1000 in
-    (told (ring large) (date 2024 2 29) (Command.Repay 1 1000) ≡ Ok first)
+    (answer_on (ring large) (date 2024 2 29) (Command.Repay 1 1000) ≡ Ok first)
     × (pledge_step repaid (on (date 2024 2 1)) (Command.Repay 1 1000) ≡ Answered first)
-    × (pledge_step (after_telling repaid (date 2024 3 1) (Command.Redeem (large - 1000))) (on (date 2025 1 1)) (Command.Repay 1 1000) ≡ Answered first)
-    × (told repaid (date 2024 2 1) (Command.Repay 1 999) ≡ Err Refusal.SeqTaken)
-    × (told repaid (date 2024 2 1) (Command.Draw 1 1000) ≡ Err Refusal.SeqTaken)
-    × (told repaid (date 2024 2 1) (Command.Repay 3 1000) ≡ Err Refusal.SeqAhead)
-    × (told repaid (date 2024 2 29) (Command.Repay 0 1000) ≡ Err Refusal.SeqAhead)
-    × (told repaid (date 2024 2 28) (Command.Repay 2 1000) ≡ Err (Refusal.Debt EarlierDay))
-    × (told repaid (date 2024 2 29) (Command.Repay 2 0) ≡ Err (Refusal.Debt BadAmount))
-    × (told repaid (date 2024 2 29) (Command.Repay 2 (large - 999)) ≡ Err (Refusal.Debt (OverOwing (large - 1000))))
-    × (told (ring small) (date 2024 8 1) (Command.Repay 1 1000) ≡ Err Refusal.Passed)
+    × (pledge_step (changed_by repaid (date 2024 3 1) (Command.Redeem (large - 1000))) (on (date 2025 1 1)) (Command.Repay 1 1000) ≡ Answered first)
+    × (answer_on repaid (date 2024 2 1) (Command.Repay 1 999) ≡ Err Refusal.SeqTaken)
+    × (answer_on repaid (date 2024 2 1) (Command.Draw 1 1000) ≡ Err Refusal.SeqTaken)
+    × (answer_on repaid (date 2024 2 1) (Command.Repay 3 1000) ≡ Err Refusal.SeqAhead)
+    × (answer_on repaid (date 2024 2 29) (Command.Repay 0 1000) ≡ Err Refusal.SeqAhead)
+    × (answer_on repaid (date 2024 2 28) (Command.Repay 2 1000) ≡ Err (Refusal.Debt EarlierDay))
+    × (answer_on repaid (date 2024 2 29) (Command.Repay 2 0) ≡ Err (Refusal.Debt BadAmount))
+    × (answer_on repaid (date 2024 2 29) (Command.Repay 2 (large - 999)) ≡ Err (Refusal.Debt (OverOwing (large - 1000))))
+    × (answer_on (ring small) (date 2024 8 1) (Command.Repay 1 1000) ≡ Err Refusal.Passed)
 
 -- a pledge on hold cannot be redeemed until it is released
 abbrev pub WorkedHolds : Type 0
 WorkedHolds =
-    let held = after_telling (ring small) (date 2024 2 1) Command.Hold in
-    (told (ring small) (date 2024 2 1) Command.Hold ≡ Ok (Done.Held true))
+    let held = changed_by (ring small) (date 2024 2 1) Command.Hold in
+    (answer_on (ring small) (date 2024 2 1) Command.Hold ≡ Ok (Done.Held true))
     × (pledge_step held (on (date 2024 2 2)) Command.Hold ≡ Answered (Done.Held true))
-    × (told held (date 2024 2 2) (Command.Redeem small) ≡ Err Refusal.Held)
-    × (told held (date 2024 2 2) Command.Release ≡ Ok (Done.Held false))
-    × (told (after_telling held (date 2024 2 2) Command.Release) (date 2024 2 2) (Command.Redeem small) ≡ Ok (Done.Redeemed (date 2024 2 2) small))
+    × (answer_on held (date 2024 2 2) (Command.Redeem small) ≡ Err Refusal.Held)
+    × (answer_on held (date 2024 2 2) Command.Release ≡ Ok (Done.Held false))
+    × (answer_on (changed_by held (date 2024 2 2) Command.Release) (date 2024 2 2) (Command.Redeem small) ≡ Ok (Done.Redeemed (date 2024 2 2) small))
     × (pledge_step (ring small) (on (date 2024 2 1)) Command.Release ≡ Answered (Done.Held false))
-    × (told held (date 2024 1 31) Command.Release ≡ Err (Refusal.Debt EarlierDay))
-    × (told held (date 2024 8 1) Command.Release ≡ Err Refusal.Passed)
+    × (answer_on held (date 2024 1 31) Command.Release ≡ Err (Refusal.Debt EarlierDay))
+    × (answer_on held (date 2024 8 1) Command.Release ≡ Err Refusal.Passed)
 
 -- the secret of a declaration replaces the live one; a written statement is accepted for a small credit only
 abbrev pub WorkedDeclarations : Type 0
 WorkedDeclarations =
     let many = record (ring small) { secrets = repeat 101 (record { day = date 2024 1 31; sort = Issue.Sworn; secret = 1 } ∷ []) } in
-    (told (ring (small_credit + 1)) (date 2024 3 2) (Command.Declare Paper.Sworn) ≡ Ok (Done.Declared 9))
-    × (live_of (after_telling (ring (small_credit + 1)) (date 2024 3 2) (Command.Declare Paper.Sworn)) ≡ Some 9)
-    × (told (ring (small_credit + 1)) (date 2024 3 2) (Command.Declare Paper.Written) ≡ Err Refusal.NotSmall)
-    × (told (ring small_credit) (date 2024 3 2) (Command.Declare Paper.Written) ≡ Ok (Done.Declared 9))
-    × (told (after_telling (ring small) (date 2024 3 2) (Command.Declare Paper.Sworn)) (date 2024 3 2) (Command.Declare Paper.Sworn) ≡ Err Refusal.SecretUsed)
+    (answer_on (ring (small_credit + 1)) (date 2024 3 2) (Command.Declare Paper.Sworn) ≡ Ok (Done.Declared 9))
+    × (live_of (changed_by (ring (small_credit + 1)) (date 2024 3 2) (Command.Declare Paper.Sworn)) ≡ Some 9)
+    × (answer_on (ring (small_credit + 1)) (date 2024 3 2) (Command.Declare Paper.Written) ≡ Err Refusal.NotSmall)
+    × (answer_on (ring small_credit) (date 2024 3 2) (Command.Declare Paper.Written) ≡ Ok (Done.Declared 9))
+    × (answer_on (changed_by (ring small) (date 2024 3 2) (Command.Declare Paper.Sworn)) (date 2024 3 2) (Command.Declare Paper.Sworn) ≡ Err Refusal.SecretUsed)
     × (reply_of (pledge_step (ring small) (record { day = date 2024 3 2; word = 1 }) (Command.Declare Paper.Sworn)) ≡ Err Refusal.SecretUsed)
-    × (told many (date 2024 3 2) (Command.Declare Paper.Sworn) ≡ Err Refusal.DeclarationsFull)
-    × (told (after_telling (after_telling (ring small) (date 2024 2 1) Command.Hold) (date 2024 2 1) (Command.Declare Paper.Sworn)) (date 2024 2 1)
+    × (answer_on many (date 2024 3 2) (Command.Declare Paper.Sworn) ≡ Err Refusal.DeclarationsFull)
+    × (answer_on (changed_by (changed_by (ring small) (date 2024 2 1) Command.Hold) (date 2024 2 1) (Command.Declare Paper.Sworn)) (date 2024 2 1)
     (Command.Redeem small) ≡ Err Refusal.Held)
 
 -- the answer to a command on a booking
@@ -161,85 +161,86 @@ booking_answer day window state = Done.Booked (record { day = day; window = wind
 
 -- the ring after a booking for 2024-03-04 was asked for
 abbrev pub ring_asked_for : PledgeValue
-ring_asked_for = after_telling (ring large) (date 2024 3 1) (Command.AskBooking (date 2024 3 4) 3)
+ring_asked_for = changed_by (ring large) (date 2024 3 1) (Command.AskBooking (date 2024 3 4) 3)
 
 -- the ring after that booking was confirmed
 abbrev pub ring_confirmed : PledgeValue
-ring_confirmed = after_telling ring_asked_for (date 2024 3 1) (Command.DecideBooking Confirm)
+ring_confirmed = changed_by ring_asked_for (date 2024 3 1) (Command.DecideBooking Confirm)
 
 -- a booking is accepted for a window of a day that is not over, and on which the property will not have passed
 abbrev pub WorkedAskings : Type 0
 WorkedAskings =
-    (told (ring large) (date 2024 3 1) (Command.AskBooking (date 2024 3 4) 3) ≡ Ok (booking_answer (date 2024 3 4) 3 Asked))
-    × (told (ring large) (date 2024 3 1) (Command.AskBooking (date 2024 3 1) 15) ≡ Ok (booking_answer (date 2024 3 1) 15 Asked))
-    × (told (ring large) (date 2024 3 1) (Command.AskBooking (date 2024 2 29) 16) ≡ Err Refusal.BadWindow)
-    × (told (ring large) (date 2024 3 1) (Command.AskBooking (date 2024 2 29) 15) ≡ Err Refusal.BookingDay)
-    × (told (ring small) (date 2024 3 1) (Command.AskBooking (date 2024 7 31) 0) ≡ Ok (booking_answer (date 2024 7 31) 0 Asked))
-    × (told (ring small) (date 2024 3 1) (Command.AskBooking (date 2024 8 1) 0) ≡ Err Refusal.BookingDay)
+    (answer_on (ring large) (date 2024 3 1) (Command.AskBooking (date 2024 3 4) 3) ≡ Ok (booking_answer (date 2024 3 4) 3 Asked))
+    × (answer_on (ring large) (date 2024 3 1) (Command.AskBooking (date 2024 3 1) 15) ≡ Ok (booking_answer (date 2024 3 1) 15 Asked))
+    × (answer_on (ring large) (date 2024 3 1) (Command.AskBooking (date 2024 2 29) 16) ≡ Err Refusal.BadWindow)
+    × (answer_on (ring large) (date 2024 3 1) (Command.AskBooking (date 2024 2 29) 15) ≡ Err Refusal.BookingDay)
+    × (answer_on (ring small) (date 2024 3 1) (Command.AskBooking (date 2024 7 31) 0) ≡ Ok (booking_answer (date 2024 7 31) 0 Asked))
+    × (answer_on (ring small) (date 2024 3 1) (Command.AskBooking (date 2024 8 1) 0) ≡ Err Refusal.BookingDay)
     × (pledge_step ring_asked_for (on (date 2024 3 4)) (Command.AskBooking (date 2024 3 4) 3) ≡ Answered (booking_answer (date 2024 3 4) 3 Asked))
     × (pledge_step ring_confirmed (on (date 2024 3 2)) (Command.AskBooking (date 2024 3 4) 3) ≡ Answered (booking_answer (date 2024 3 4) 3 Confirmed))
-    × (told ring_confirmed (date 2024 3 2) (Command.AskBooking (date 2024 3 4) 4) ≡ Ok (booking_answer (date 2024 3 4) 4 Asked))
-    × (told ring_asked_for (date 2024 3 5) (Command.AskBooking (date 2024 3 4) 3) ≡ Err Refusal.BookingDay)
+    × (answer_on ring_confirmed (date 2024 3 2) (Command.AskBooking (date 2024 3 4) 4) ≡ Ok (booking_answer (date 2024 3 4) 4 Asked))
+    × (answer_on ring_asked_for (date 2024 3 5) (Command.AskBooking (date 2024 3 4) 3) ≡ Err Refusal.BookingDay)
 
 -- an active booking (asked for or confirmed) can be cancelled
 abbrev pub WorkedCancellings : Type 0
 WorkedCancellings =
-    let cancelled = after_telling ring_confirmed (date 2024 3 5) Command.CancelBooking in
-    let refused = after_telling ring_confirmed (date 2024 3 2) (Command.DecideBooking Refuse) in
-    (told (ring large) (date 2024 3 1) Command.CancelBooking ≡ Err Refusal.NoBooking)
-    × (told ring_asked_for (date 2024 3 1) Command.CancelBooking ≡ Ok (booking_answer (date 2024 3 4) 3 Cancelled))
-    × (told ring_confirmed (date 2024 3 5) Command.CancelBooking ≡ Ok (booking_answer (date 2024 3 4) 3 Cancelled))
+    let cancelled = changed_by ring_confirmed (date 2024 3 5) Command.CancelBooking in
+    let refused = changed_by ring_confirmed (date 2024 3 2) (Command.DecideBooking Refuse) in
+    (answer_on (ring large) (date 2024 3 1) Command.CancelBooking ≡ Err Refusal.NoBooking)
+    × (answer_on ring_asked_for (date 2024 3 1) Command.CancelBooking ≡ Ok (booking_answer (date 2024 3 4) 3 Cancelled))
+    × (answer_on ring_confirmed (date 2024 3 5) Command.CancelBooking ≡ Ok (booking_answer (date 2024 3 4) 3 Cancelled))
     × (pledge_step cancelled (on (date 2024 3 6)) Command.CancelBooking ≡ Answered (booking_answer (date 2024 3 4) 3 Cancelled))
-    × (told refused (date 2024 3 2) Command.CancelBooking ≡ Err Refusal.NoBooking)
+    × (answer_on refused (date 2024 3 2) Command.CancelBooking ≡ Err Refusal.NoBooking)
 
 -- a booking that is asked for can be confirmed up to its day, and refused on any day
 abbrev pub WorkedDecisions : Type 0
 WorkedDecisions =
-    let cancelled = after_telling ring_asked_for (date 2024 3 1) Command.CancelBooking in
-    let refused = after_telling ring_asked_for (date 2024 3 1) (Command.DecideBooking Refuse) in
-    (told (ring large) (date 2024 3 1) (Command.DecideBooking Confirm) ≡ Err Refusal.NoBooking)
-    × (told (ring large) (date 2024 3 1) (Command.DecideBooking Refuse) ≡ Err Refusal.NoBooking)
-    × (told ring_asked_for (date 2024 3 4) (Command.DecideBooking Confirm) ≡ Ok (booking_answer (date 2024 3 4) 3 Confirmed))
-    × (told ring_asked_for (date 2024 3 5) (Command.DecideBooking Confirm) ≡ Err Refusal.BookingDay)
+    let cancelled = changed_by ring_asked_for (date 2024 3 1) Command.CancelBooking in
+    let refused = changed_by ring_asked_for (date 2024 3 1) (Command.DecideBooking Refuse) in
+    (answer_on (ring large) (date 2024 3 1) (Command.DecideBooking Confirm) ≡ Err Refusal.NoBooking)
+    × (answer_on (ring large) (date 2024 3 1) (Command.DecideBooking Refuse) ≡ Err Refusal.NoBooking)
+    × (answer_on ring_asked_for (date 2024 3 4) (Command.DecideBooking Confirm) ≡ Ok (booking_answer (date 2024 3 4) 3 Confirmed))
+    × (answer_on ring_asked_for (date 2024 3 5) (Command.DecideBooking Confirm) ≡ Err Refusal.BookingDay)
     × (pledge_step ring_confirmed (on (date 2024 3 5)) (Command.DecideBooking Confirm) ≡ Answered (booking_answer (date 2024 3 4) 3 Confirmed))
-    × (told ring_confirmed (date 2024 3 5) (Command.DecideBooking Refuse) ≡ Ok (booking_answer (date 2024 3 4) 3 Refused))
+    × (answer_on ring_confirmed (date 2024 3 5) (Command.DecideBooking Refuse) ≡ Ok (booking_answer (date 2024 3 4) 3 Refused))
     × (pledge_step refused (on (date 2024 3 2)) (Command.DecideBooking Refuse) ≡ Answered (booking_answer (date 2024 3 4) 3 Refused))
-    × (told refused (date 2024 3 2) (Command.DecideBooking Confirm) ≡ Err Refusal.NoBooking)
-    × (told cancelled (date 2024 3 2) (Command.DecideBooking Confirm) ≡ Err Refusal.NoBooking)
-    × (told cancelled (date 2024 3 2) (Command.DecideBooking Refuse) ≡ Err Refusal.NoBooking)
+    × (answer_on refused (date 2024 3 2) (Command.DecideBooking Confirm) ≡ Err Refusal.NoBooking)
+    × (answer_on cancelled (date 2024 3 2) (Command.DecideBooking Confirm) ≡ Err Refusal.NoBooking)
+    × (answer_on cancelled (date 2024 3 2) (Command.DecideBooking Refuse) ≡ Err Refusal.NoBooking)
 
 -- a redemption pays exactly the sum owed, before the property passes; it spends the receipt and cancels the booking
 abbrev pub WorkedRedemptions : Type 0
 WorkedRedemptions =
-    let redeemed = after_telling ring_confirmed (date 2024 3 4) (Command.Redeem large) in
-    (told (ring small) (date 2024 2 1) (Command.Redeem (small - 1)) ≡ Err (Refusal.WrongAmount small))
-    × (told (ring small) (date 2024 7 31) (Command.Redeem small) ≡ Ok (Done.Redeemed (date 2024 7 31) small))
-    × (told (ring small) (date 2024 8 1) (Command.Redeem small) ≡ Err Refusal.Passed)
-    × (told (ring large) (date 2024 8 1) (Command.Redeem large) ≡ Ok (Done.Redeemed (date 2024 8 1) large))
-    × (told (ring_with_grace small) (date 2024 8 5) (Command.Redeem small) ≡ Ok (Done.Redeemed (date 2024 8 5) small))
-    × (told (ring_with_grace small) (date 2024 8 6) (Command.Redeem small) ≡ Err Refusal.Passed)
-    × (told (ring_pledge (Fixed small) false (Some (date 2024 8 1)) free) (date 2024 8 2) (Command.Redeem small) ≡ Ok (Done.Redeemed (date 2024 8 2) small))
+    let redeemed = changed_by ring_confirmed (date 2024 3 4) (Command.Redeem large) in
+    (answer_on (ring small) (date 2024 2 1) (Command.Redeem (small - 1)) ≡ Err (Refusal.WrongAmount small))
+    × (answer_on (ring small) (date 2024 7 31) (Command.Redeem small) ≡ Ok (Done.Redeemed (date 2024 7 31) small))
+    × (answer_on (ring small) (date 2024 8 1) (Command.Redeem small) ≡ Err Refusal.Passed)
+    × (answer_on (ring large) (date 2024 8 1) (Command.Redeem large) ≡ Ok (Done.Redeemed (date 2024 8 1) large))
+    × (answer_on (ring_with_grace small) (date 2024 8 5) (Command.Redeem small) ≡ Ok (Done.Redeemed (date 2024 8 5) small))
+    × (answer_on (ring_with_grace small) (date 2024 8 6) (Command.Redeem small) ≡ Err Refusal.Passed)
+    × (answer_on (ring_pledge (Fixed small) false (Some (date 2024 8 1)) free) (date 2024 8 2) (Command.Redeem small)
+    ≡ Ok (Done.Redeemed (date 2024 8 2) small))
     × (live_of redeemed ≡ None)
     × (status_of redeemed (date 2024 8 1) ≡ Status.Redeemed)
     × (redeemed.standing.booking ≡ Some (record { day = date 2024 3 4; window = 3; state = Cancelled }))
-    × (told redeemed (date 2024 3 4) (Command.Redeem large) ≡ Err Refusal.Closed)
-    × (told redeemed (date 2024 3 3) (Command.Redeem large) ≡ Err (Refusal.Debt EarlierDay))
+    × (answer_on redeemed (date 2024 3 4) (Command.Redeem large) ≡ Err Refusal.Closed)
+    × (answer_on redeemed (date 2024 3 3) (Command.Redeem large) ≡ Err (Refusal.Debt EarlierDay))
 
 -- a realisable pledge can be sold, for more or less than the sum owed; its receipt stays live
 abbrev pub WorkedSales : Type 0
 WorkedSales =
-    let sold = after_telling (ring large) (date 2024 8 1) (Command.Sell 9000) in
-    (told (ring large) (date 2024 8 1) (Command.Sell (large - 1000)) ≡ Ok (Done.Sold (large - 1000) 0 1000))
-    × (told (ring large) (date 2024 8 1) (Command.Sell (large + 2345)) ≡ Ok (Done.Sold (large + 2345) 2345 0))
-    × (told (ring large) (date 2024 8 1) (Command.Sell 0) ≡ Ok (Done.Sold 0 0 large))
-    × (told (ring large) (date 2024 8 1) (Command.Sell 100000001) ≡ Err (Refusal.Debt BadAmount))
-    × (told (ring large) (date 2024 7 31) (Command.Sell 9000) ≡ Err Refusal.NotRealisable)
-    × (told (ring_with_grace large) (date 2024 8 5) (Command.Sell 9000) ≡ Err Refusal.NotRealisable)
-    × (told (ring small) (date 2024 8 1) (Command.Sell 9000) ≡ Err Refusal.Passed)
+    let sold = changed_by (ring large) (date 2024 8 1) (Command.Sell 9000) in
+    (answer_on (ring large) (date 2024 8 1) (Command.Sell (large - 1000)) ≡ Ok (Done.Sold (large - 1000) 0 1000))
+    × (answer_on (ring large) (date 2024 8 1) (Command.Sell (large + 2345)) ≡ Ok (Done.Sold (large + 2345) 2345 0))
+    × (answer_on (ring large) (date 2024 8 1) (Command.Sell 0) ≡ Ok (Done.Sold 0 0 large))
+    × (answer_on (ring large) (date 2024 8 1) (Command.Sell 100000001) ≡ Err (Refusal.Debt BadAmount))
+    × (answer_on (ring large) (date 2024 7 31) (Command.Sell 9000) ≡ Err Refusal.NotRealisable)
+    × (answer_on (ring_with_grace large) (date 2024 8 5) (Command.Sell 9000) ≡ Err Refusal.NotRealisable)
+    × (answer_on (ring small) (date 2024 8 1) (Command.Sell 9000) ≡ Err Refusal.Passed)
     × (live_of sold ≡ Some 1)
     × (status_of sold (date 2024 8 1) ≡ Status.Sold)
-    × (told sold (date 2024 8 1) (Command.Sell 9000) ≡ Err Refusal.Closed)
-    × (told sold (date 2024 7 31) (Command.Sell 9000) ≡ Err (Refusal.Debt EarlierDay))
+    × (answer_on sold (date 2024 8 1) (Command.Sell 9000) ≡ Err Refusal.Closed)
+    × (answer_on sold (date 2024 7 31) (Command.Sell 9000) ≡ Err (Refusal.Debt EarlierDay))
 
 -- the ring with safe keeping at a penny a day in the period
 abbrev pub ring_in_safe_keeping : PledgeValue
@@ -247,20 +248,20 @@ ring_in_safe_keeping = ring_pledge (Fixed small) false None (rates_of 0 1000000 
 
 -- the same after its period was extended to 2024-09-30
 abbrev pub ring_extended : PledgeValue
-ring_extended = after_telling ring_in_safe_keeping (date 2024 7 31) (Command.Extend (date 2024 9 30))
+ring_extended = changed_by ring_in_safe_keeping (date 2024 7 31) (Command.Extend (date 2024 9 30))
 
 -- a period can be extended while it is not over
 abbrev pub WorkedExtensions : Type 0
 WorkedExtensions =
     let often = record (ring large) { extensions = repeat 99 (record { day = date 2024 7 31; until = date 2024 9 30 } ∷ []) } in
-    (told ring_in_safe_keeping (date 2024 7 31) (Command.Extend (date 2024 7 30)) ≡ Err Refusal.NotLater)
+    (answer_on ring_in_safe_keeping (date 2024 7 31) (Command.Extend (date 2024 7 30)) ≡ Err Refusal.NotLater)
     × (pledge_step ring_in_safe_keeping (on (date 2024 7 31)) (Command.Extend (date 2024 7 31)) ≡ Answered (Done.Extended (date 2024 7 31)))
-    × (told ring_in_safe_keeping (date 2024 7 31) (Command.Extend (date 2024 9 30)) ≡ Ok (Done.Extended (date 2024 9 30)))
+    × (answer_on ring_in_safe_keeping (date 2024 7 31) (Command.Extend (date 2024 9 30)) ≡ Ok (Done.Extended (date 2024 9 30)))
     × (pledge_step ring_extended (on (date 2024 7 31)) (Command.Extend (date 2024 9 30)) ≡ Answered (Done.Extended (date 2024 9 30)))
     × (end_of ring_extended ≡ date 2024 9 30)
     × (status_of ring_extended (date 2024 8 5) ≡ Status.Inside)
     × (status_of ring_extended (date 2024 10 1) ≡ Status.Realisable)
-    × (told ring_extended (date 2024 10 1) (Command.Redeem (small + 243)) ≡ Ok (Done.Redeemed (date 2024 10 1) (small + 243)))
-    × (told ring_in_safe_keeping (date 2024 8 1) (Command.Extend (date 2024 9 30)) ≡ Err Refusal.Passed)
-    × (told (ring large) (date 2024 8 1) (Command.Extend (date 2024 9 30)) ≡ Err Refusal.PeriodOver)
-    × (told often (date 2024 7 31) (Command.Extend (date 2024 10 1)) ≡ Err Refusal.ExtensionsFull)
+    × (answer_on ring_extended (date 2024 10 1) (Command.Redeem (small + 243)) ≡ Ok (Done.Redeemed (date 2024 10 1) (small + 243)))
+    × (answer_on ring_in_safe_keeping (date 2024 8 1) (Command.Extend (date 2024 9 30)) ≡ Err Refusal.Passed)
+    × (answer_on (ring large) (date 2024 8 1) (Command.Extend (date 2024 9 30)) ≡ Err Refusal.PeriodOver)
+    × (answer_on often (date 2024 7 31) (Command.Extend (date 2024 10 1)) ≡ Err Refusal.ExtensionsFull)

@@ -1,6 +1,6 @@
 //! Accepts connections and answers them, one after the other.
 ghost use Rattle.pawn_host.specs.Ends.{reads, left_of};
-ghost use Rattle.pawn_host.specs.Keeps.{StaysOpen, Serves};
+ghost use Rattle.pawn_host.specs.Keeps.{StaysOpen, ForEachStart};
 ghost use Rattle.pawn_host.specs.Session.{IsSession, IsWithinMost};
 ghost use Rattle.pawn_program.specs.Clock.{GivesDated};
 ghost use Rattle.pawn_program.specs.Serving.{AreServed};
@@ -37,7 +37,7 @@ pub fn serve_connections<K: Keep, C: SecondsClock + Drop>(
 ) -> Served
     ensures counted { result.answered + result.failed ≡ connections }
     ensures stays { StaysOpen K.keeping service.old service.new }
-    ensures served { Serves K.keeping service.old service.new (λ start. AreServed (GivesDated C.reads) stamps.old stamps.new start result.answered) }
+    ensures served { ForEachStart K.keeping service.old service.new (λ start. AreServed (GivesDated C.reads) stamps.old stamps.new start result.answered) }
 {
     let mut served = Served {
         answered: 0,
@@ -78,7 +78,7 @@ fn answer_connection<K: Keep, R: Read, W: Write, I: Iterator<Item = Stamp>>(
     requires fine { write_failed writer.old ≡ false }
     requires can { I.can_next stamps.old }
     ensures stays { StaysOpen K.keeping service.old service.new }
-    ensures session { Serves K.keeping service.old service.new (λ start. IsSession I.next_gives (record {
+    ensures session { ForEachStart K.keeping service.old service.new (λ start. IsSession I.next_gives (record {
       start = start;
       stamps = stamps.old;
       stream = left_of R.remaining reader.old;

@@ -7,7 +7,7 @@ use Rattle.pawn_saving.proofs.RowsInOrder.{placed_parts}
 use Rattle.pawn_saving.specs.Common.{Database, changed_book, made_book, with_change, book_row_count, with_book, AddTerms}
 use Rattle.pawn_saving.specs.Common.{MakeBook, NewBook, with_rows, ListsOurs}
 use Rattle.pawn_saving.specs.Counted.{IsWrittenPart, ListsHost}
-use Rattle.pawn_saving.specs.Writing.{IsOnly}
+use Rattle.pawn_saving.specs.RowWrites.{IsOnly}
 use Rattle.pawn_tables.proofs.Basics.{nat_tests, IsPermutation-map, IsPermutation-sym, IsPermutation-trans}
 use Rattle.pawn_tables.proofs.Basics.{length_permutation, IsPermutation-filter}
 use Rattle.pawn_tables.specs.At.{at_book}

@@ -5,7 +5,7 @@ use Rattle.pawn_saving.proofs.OurTables.{row_joins, row_set_by}
 use Rattle.pawn_saving.proofs.Places.{books_place}
 use Rattle.pawn_saving.proofs.StatementWrites.{cast_optional}
 use Rattle.pawn_saving.specs.Common.{cast, BlobKind, filled_book, made_book, NewBook, BookRows, with_rows, ListsOurs}
-use Rattle.pawn_saving.specs.Writing.{IsOnly}
+use Rattle.pawn_saving.specs.RowWrites.{IsOnly}
 use Rattle.pawn_tables.proofs.Basics.{over_table, passes}
 use Rattle.pawn_tables.specs.At.{at_book}
 use Rattle.pawn_tables.specs.Common.{Index, Row, column, Executes, State, Term, Blob, Int, Null, Text, Rates}

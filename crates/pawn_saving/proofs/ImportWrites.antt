@@ -10,7 +10,7 @@ use Rattle.pawn_saving.specs.Common.{pledge_row_count, with_book, AreSound, Impo
 use Rattle.pawn_saving.specs.Counted.{IsWrittenPart, ListsHost}
 use Rattle.pawn_saving.specs.Importing.{whole_pledges}
 use Rattle.pawn_saving.specs.Putting.{beside, booking_under, whole_pledge}
-use Rattle.pawn_saving.specs.Writing.{IsCarried}
+use Rattle.pawn_saving.specs.RowWrites.{IsCarried}
 use Rattle.pawn_tables.proofs.Basics.{nat_tests, filter-append, flat_map_none}
 use Rattle.pawn_tables.specs.At.{at_pledge}
 use Rattle.pawn_tables.specs.Common.{get, Row, HasCleanDisk, State, PledgeValue, Booking, BookValue, pledge_from}

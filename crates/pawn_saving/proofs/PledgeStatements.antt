@@ -6,7 +6,7 @@ use Rattle.pawn_saving.proofs.OurTables.{row_set_where}
 use Rattle.pawn_saving.proofs.Places.{pledges_place}
 use Rattle.pawn_saving.proofs.StatementWrites.{cast_optional, own_row, own_where}
 use Rattle.pawn_saving.specs.Common.{Agreement, with_rows, ListsOurs}
-use Rattle.pawn_saving.specs.Writing.{IsOnly}
+use Rattle.pawn_saving.specs.RowWrites.{IsOnly}
 use Rattle.pawn_tables.specs.At.{at_pledge}
 use Rattle.pawn_tables.specs.Common.{Row, column, Executes, State, Value, Int, Text, PledgeValue, end_of, Listed}
 use Rattle.pawn_tables.specs.Common.{columns_of}

@@ -4,7 +4,7 @@ use Rattle.pawn_saving.proofs.Basics.{map-append, take_more, IsPermutation-appen
 use Rattle.pawn_saving.proofs.Basics.{IsPermutation-refl, clean_before, same_tree}
 use Rattle.pawn_saving.proofs.Hosting.{relisted_by}
 use Rattle.pawn_saving.specs.Common.{Database, with_rows, ListsOurs}
-use Rattle.pawn_saving.specs.Writing.{IsCarried}
+use Rattle.pawn_saving.specs.RowWrites.{IsCarried}
 use Rattle.pawn_tables.proofs.Basics.{nat_tests}
 use Rattle.pawn_tables.specs.Common.{Row, HasCleanDisk, State, IsLent, Listed}
 use Rattle.pawn_tables.specs.Rows.{placed_from}

@@ -90,7 +90,7 @@ module _ {K : Type 0} (state : K → State) (old new : K) (begun lent : State) (
 
     on_past : (HasCleanDisk (state new) → IsWhole (state old) → IsWhole (state new)) → GoesOn (keeping_by state) old new
     on_past whole =
-        record { was_honest = λ clean. was.clean (clean_first clean); served = λ clean now. was_served clean; stays = λ steady. steady; whole = whole }
+        record { was_honest = λ clean. was.clean (clean_first clean); was_usable = λ clean now. was_served clean; stays = λ steady. steady; whole = whole }
 
     -- the changed host is sound
     changed_sound : HasCleanDisk (state new) → (h : Host) → IsSound h → Keeps (state old) h → IsSound (with_change h change)
@@ -194,7 +194,7 @@ module _ {K : Type 0} (state : K → State) (old new : K) (begun lent : State) (
     saves_undone = record {
       on = record {
         was_honest = λ clean. was.clean (clean_begun clean);
-        served = back_opened false part (clean_past after) undone (λ clean. (undone clean).autocommit);
+        was_usable = back_opened false part (clean_past after) undone (λ clean. (undone clean).autocommit);
         stays = λ steady. steady;
         whole = λ clean w.
             record { host = w.host; sound = w.sound; keeps = same clean w.host w.keeps; crash = λ trees left. w.crash trees (left_before clean trees left) };

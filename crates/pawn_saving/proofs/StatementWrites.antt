@@ -10,7 +10,7 @@ use Rattle.pawn_saving.proofs.Places.{terms_place, entries_place, pledges_place,
 use Rattle.pawn_saving.proofs.Places.{totals_place, extensions_place}
 use Rattle.pawn_saving.specs.Common.{cast, cast_row, Chosen, Integer, value_rows, with_rowid, with_rows, AreLoose}
 use Rattle.pawn_saving.specs.Common.{ListsOurs}
-use Rattle.pawn_saving.specs.Writing.{IsOnly}
+use Rattle.pawn_saving.specs.RowWrites.{IsOnly}
 use Rattle.pawn_tables.proofs.Basics.{nat_tests}
 use Rattle.pawn_tables.proofs.PlacedRows.{regroup}
 use Rattle.pawn_tables.specs.At.{at_pledge, is_at}

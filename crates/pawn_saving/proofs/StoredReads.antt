@@ -3,7 +3,7 @@ use Rattle.pawn_saving.proofs.Basics.{reachable_at}
 use Rattle.pawn_saving.proofs.PledgeWrites.{continues_it}
 use Rattle.pawn_saving.specs.Common.{Grows, CanSave, Continues, PutPledge}
 use Rattle.pawn_saving.specs.Stored.{length_in, AreLengths, IsLengthWithin, IsStored}
-use Rattle.pawn_saving.specs.Writing.{IsCarried}
+use Rattle.pawn_saving.specs.RowWrites.{IsCarried}
 use Rattle.pawn_saving.specs.declared.lengths.Lengths.{Lengths}
 use Rattle.pawn_saving.specs.declared.stored.PledgeList.{PledgeList}
 use Rattle.pawn_saving.specs.declared.stored.Stored.{Stored}

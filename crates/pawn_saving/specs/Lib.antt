@@ -3,4 +3,4 @@ pub mod Counted
 pub mod Importing
 pub mod Putting
 pub mod Stored
-pub mod Writing
+pub mod RowWrites

@@ -1,7 +1,7 @@
 -- The rows that saving a pledge writes.
 use Rattle.pawn_debt.specs.Kept.{totals_of}
 use Rattle.pawn_saving.specs.Common.{pledge_row_count, with_rows, ListsOurs}
-use Rattle.pawn_saving.specs.Writing.{IsOnly}
+use Rattle.pawn_saving.specs.RowWrites.{IsOnly}
 use Rattle.pawn_saving.specs.declared.lengths.Lengths.{Lengths}
 use Rattle.pawn_tables.specs.At.{at_pledge}
 use Rattle.pawn_tables.specs.Common.{Row, HasCleanDisk, State, PledgeValue, debt_of, Listed}

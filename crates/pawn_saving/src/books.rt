@@ -1,6 +1,6 @@
 //! Writes the rows of a book and of its terms.
 ghost use Rattle.pawn_saving.specs.Common.{filled_book, made_book, BookRows};
-ghost use Rattle.pawn_saving.specs.Writing.{AddsRow, Replaces};
+ghost use Rattle.pawn_saving.specs.RowWrites.{AddsRow, Replaces};
 ghost use Rattle.pawn_tables.specs.At.{at_book};
 ghost use Rattle.pawn_tables.specs.Common.{state, Rates, PledgeValue, BookValue, Lends};
 ghost use Rattle.pawn_tables.specs.Rows.{book_row, number, terms_cells};

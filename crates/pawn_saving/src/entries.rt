@@ -1,5 +1,5 @@
 //! Inserts an entry, a secret or an extension.
-ghost use Rattle.pawn_saving.specs.Writing.{AddsRow};
+ghost use Rattle.pawn_saving.specs.RowWrites.{AddsRow};
 ghost use Rattle.pawn_tables.specs.Common.{state, Lends};
 ghost use Rattle.pawn_tables.specs.Rows.{entry_cells, extension_cells, secret_cells, under};
 ghost use Rattle.pawn_tables.specs.Schema.{entries_tree, extensions_tree, secrets_tree};

@@ -3,7 +3,7 @@ ghost use Rattle.pawn_saving.specs.Common.{ImportBook};
 ghost use Rattle.pawn_saving.specs.Counted.{WritesRows};
 ghost use Rattle.pawn_saving.specs.Importing.{AddsPledges};
 ghost use Rattle.pawn_saving.specs.Putting.{AddsPledge};
-ghost use Rattle.pawn_saving.specs.Writing.{Carries};
+ghost use Rattle.pawn_saving.specs.RowWrites.{Carries};
 ghost use Rattle.pawn_tables.specs.Common.{state, Lends};
 ghost use Rattle.pawn_tables.specs.Rows.{number_in_book};
 ghost use Rattle.std.specs.Prelude.{◌≡◌, ◌+◌, IfOk, is_ok};

@@ -1,5 +1,5 @@
 //! Inserts several rows of a list, one after the other.
-ghost use Rattle.pawn_saving.specs.Writing.{AddsRows, Carries};
+ghost use Rattle.pawn_saving.specs.RowWrites.{AddsRows, Carries};
 ghost use Rattle.pawn_tables.specs.Common.{state};
 ghost use Rattle.pawn_tables.specs.Rows.{entry_cells, extension_cells, number, placed_from, secret_cells, terms_cells};
 ghost use Rattle.pawn_tables.specs.Rows.{under};

@@ -1,5 +1,5 @@
 //! Writes the single rows of a pledge: its own row, its booking and its totals.
-ghost use Rattle.pawn_saving.specs.Writing.{AddsRow, KeepsSchema, PutsOver, Replaces};
+ghost use Rattle.pawn_saving.specs.RowWrites.{AddsRow, KeepsSchema, PutsOver, Replaces};
 ghost use Rattle.pawn_tables.specs.At.{at_pledge};
 ghost use Rattle.pawn_tables.specs.Common.{state, Totals, PledgeValue, Booking, Lends};
 ghost use Rattle.pawn_tables.specs.Rows.{booking_cells, pledge_cells, totals_cells, under};

@@ -1,7 +1,7 @@
 //! Writes a pledge that is not stored yet, and the parts that it shares with one that is.
 ghost use Rattle.pawn_saving.specs.Common.{pledge_row_count};
 ghost use Rattle.pawn_saving.specs.Putting.{AddRows, AddRelated, AddsPledge, PutsFor, lists_past};
-ghost use Rattle.pawn_saving.specs.Writing.{Carries};
+ghost use Rattle.pawn_saving.specs.RowWrites.{Carries};
 ghost use Rattle.pawn_tables.specs.At.{at_pledge};
 ghost use Rattle.pawn_tables.specs.Common.{state, Booking, Lends};
 ghost use Rattle.pawn_tables.specs.Rows.{at_most_one, booking_cells, under};

@@ -70,7 +70,7 @@ pub(crate) fn write_change<S: Alter>(
 /// have more counted rows than its limit, and `Memory` or `Store` if the database failed. It is also `Store` if a
 /// transaction is already under way.
 pub fn save<S: Alter>(conn: &mut Connection<S>, change: &Change) -> Result<(), SaveError>
-    requires can_save { (keeping_by (λ c. state S.Store c)).serves conn.old → OfHost
+    requires can_save { (keeping_by (λ c. state S.Store c)).usable conn.old → OfHost
         (keeping_by (λ c. state S.Store c)) conn.old conn.old (λ h. CanSave h change.now) }
     ensures ended { conn.old.in_transaction ≡ false → conn.new.in_transaction ≡ false }
     ensures saves { Saves (keeping_by (λ c. state S.Store c)) conn.old conn.new change.now result }

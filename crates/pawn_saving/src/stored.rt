@@ -1,6 +1,6 @@
 //! Reads how much of a pledge is stored before the pledge is written.
 ghost use Rattle.pawn_saving.specs.Stored.{AreLengths, IsLengthWithin, IsStored, ReadsIn, length_in};
-ghost use Rattle.pawn_saving.specs.Writing.{Carries};
+ghost use Rattle.pawn_saving.specs.RowWrites.{Carries};
 ghost use Rattle.pawn_tables.specs.Common.{get, state, pledge_in, Lends};
 ghost use Rattle.std.specs.Prelude.{◌≡◌, ◌≤◌, ◌↔◌, IsTrue, is_ok};
 

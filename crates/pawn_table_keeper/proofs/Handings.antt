@@ -170,7 +170,7 @@ module _ {K V T : Type 0} (k : Keeping K) (step : V → T → Flow → V → Typ
       errs = record {
         never = λ steady. absurd (may steady);
         no_record = λ bad honest h at.
-            let both = sym (length-append before.0 (past n h)) ∙ ap length (before.2.tells honest h at) in let so_far = before.3 in
+            let both = sym (length-append before.0 (past n h)) ∙ ap length (before.2.states honest h at) in let so_far = before.3 in
             unsound h (omega (arith, above, both, so_far));
       };
     }

@@ -82,14 +82,14 @@ module _ {K : Type 0} (state_of : K → State) (old new : K) {A : Type 0} {IsUns
 
   pub read_by : Reads (keeping_by state_of) old new (λ h. IfOk r (P h))
   read_by = record {
-    on = record { was_honest = clean_old; served = opened; stays = λ steady. steady; whole = whole };
+    on = record { was_honest = clean_old; was_usable = opened; stays = λ steady. steady; whole = whole };
     same = kept;
     back = λ clean now h k. record {
       autocommit = was.ended;
       committed = was.settled was.ended;
       stands = λ before. subst (λ d. StandsFor d h) (as_it_was clean now) (k.stands now);
     };
-    tells = λ clean h k. found r (P h) (Rests (begun_of (state_of old)) lent) (IsUnsound h) (was.finds (clean_lent clean) refl h k.stands);
+    states = λ clean h k. found r (P h) (Rests (begun_of (state_of old)) lent) (IsUnsound h) (was.finds (clean_lent clean) refl h k.stands);
     crash = λ clean left l. record { trees = l.trees; left = left_before clean l.trees l.left; stands = l.stands };
   }
 
@@ -114,5 +114,5 @@ read_in {S} g conn old new {tx} {lent} {IsUnsound} P r ended settled begun lends
 -- .. of one book
 pub told : {S A : Type 0} {g : Ghosts S} {old new : TableKeep S g} {book : ℕ} {r : Result A KeepError} {P : Host → A → Type 0}
     → record { reads : Reads (keeping_of g) old new (λ h. IfOk r (P h)); errs : Errs (keeping_of g) old new (IsUnsoundAt book) r }
-    → record { tells : ReadsOfBook g old new book r P }
-told it = record { tells = record { reads = it.reads; errs = it.errs } }
+    → record { states : ReadsOfBook g old new book r P }
+told it = record { states = record { reads = it.reads; errs = it.errs } }

@@ -47,7 +47,7 @@ module _ {K V T : Type 0} (k : Keeping K) (step : V → T → Flow → V → Typ
       on = q.on;
       same = q.same;
       back = q.back;
-      tells = λ honest h at. (q.tells honest h at, r.tells honest h at);
+      states = λ honest h at. (q.states honest h at, r.states honest h at);
       crash = q.crash;
     }
 

@@ -62,7 +62,7 @@ module _ {K : Type 0} (state : K → State) (old new : K) (rested : (state old).
   asked = record {
     on = record {
       was_honest = was_clean;
-      served = λ clean serves. (as_it_was clean serves).0;
+      was_usable = λ clean serves. (as_it_was clean serves).0;
       stays = λ steady. steady;
       whole =
           λ clean w. record { host = w.host; sound = w.sound; keeps = kept clean w.host w.keeps; crash = λ trees l. w.crash trees (left_before clean trees l) };
@@ -73,7 +73,7 @@ module _ {K : Type 0} (state : K → State) (old new : K) (rested : (state old).
       committed = settled;
       stands = λ before. subst (λ d. StandsFor d h) (as_it_was clean serves).1 (k.stands serves);
     };
-    tells = λ clean h k. tt;
+    states = λ clean h k. tt;
     crash = λ clean h l. record { trees = l.trees; left = left_before clean l.trees l.left; stands = l.stands };
   }
 

@@ -67,7 +67,7 @@ module _ {K V T : Type 0} (k : Keeping K) (step : V → T → Flow → V → Typ
     never = λ steady. absurd (may steady);
     no_record = λ bad honest h at.
         let given : length walked.0 ≤ length (listed h) =
-        subst (λ l. length l ≤ length (listed h)) (sym (walked.2.tells honest h at)) (take_at_most i (listed h)) in
+        subst (λ l. length l ≤ length (listed h)) (sym (walked.2.states honest h at)) (take_at_most i (listed h)) in
         let all = walked.3 in
         unsound h (omega (arith, past, all, given));
   }

@@ -8,9 +8,9 @@ use Rattle.pawn_tables.specs.Common.{get, State, Rates, PledgeValue, BookValue, 
 use Rattle.pawn_tables.specs.Common.{extensions_of, secrets_of, terms_of, terms_at, IsUnsoundAt, KeepError, IsLent}
 use Rattle.pawn_tables.specs.Common.{HasTermsOf, Rests}
 use Rattle.pawn_tables.specs.Finding.{FindsIn, IsRead}
-use Rattle.pawn_tables.specs.PledgeRows.{AreLists, AreRelated, AreTold, booking_of, row_of, totals_in}
+use Rattle.pawn_tables.specs.PledgeRows.{AreLists, AreRelated, IsPledgeRow, booking_of, row_of, totals_in}
 use Rattle.pawn_tables.specs.StandsFor.{AreBooksOrdered, AreStorable}
-use Rattle.pawn_tables.specs.declared.joining.Lists.{Lists}
+use Rattle.pawn_tables.specs.declared.joining.PledgeLists.{PledgeLists}
 use Rattle.pawn_tables.specs.declared.joining.RelatedRows.{RelatedRows}
 use Rattle.pawn_tables.specs.declared.joining.StoredPledge.{StoredPledge}
 use Rattle.std.proofs.Common.{◌≡◌, ◌≤◌, ◌<◌, ◌^◌, ℕ, zero, suc, List, [], ◌∷◌, length, Option, Some, None, Result, Ok}
@@ -43,7 +43,7 @@ related_told h b n v s ordered terms booking totals = go (pledge_in (get h.books
     totals = totals;
   }
 
-pub lists_told : (o : Option PledgeValue) (l : Lists) → l.entries ≡ entries_of o → l.secrets ≡ secrets_of o → l.extensions ≡ extensions_of o
+pub lists_told : (o : Option PledgeValue) (l : PledgeLists) → l.entries ≡ entries_of o → l.secrets ≡ secrets_of o → l.extensions ≡ extensions_of o
     → IfSome o (AreLists l)
 lists_told None l entries secrets extensions = tt
 lists_told (Some p) l entries secrets extensions = record { entries = entries; secrets = secrets; extensions = extensions }
@@ -69,29 +69,30 @@ none_under s0 s1 (Ok x) b v big lent f clean within h stood = let found = f clea
 
 -- what the row and the related tell together
 pub told_of : (h : Host) (b n v : ℕ) (p : PledgeValue) (t : StoredPledge) → pledge_in (get h.books b) n ≡ Some p → t.row ≡ row_of p → v ≡ t.row.version
-    → IfSome (pledge_in (get h.books b) n) (λ q. v ≡ q.agreement.version → AreRelated t.related q) → AreTold (Some t) (pledge_in (get h.books b) n)
+    → IfSome (pledge_in (get h.books b) n) (λ q. v ≡ q.agreement.version → AreRelated t.related q) → IsPledgeRow (Some t) (pledge_in (get h.books b) n)
 told_of h b n v p t at of version related = let beside = subst (λ o. IfSome o (λ q. v ≡ q.agreement.version → AreRelated t.related q)) at related in
-    subst (AreTold (Some t)) (sym at) (of, beside (version ∙ ap (λ (r : PledgeRow). r.version) of))
+    subst (IsPledgeRow (Some t)) (sym at) (of, beside (version ∙ ap (λ (r : PledgeRow). r.version) of))
 
 -- the same, with terms that are known of another pledge under the same version
 pub known_told : (h : Host) (b n : ℕ) (row : PledgeRow) (related : RelatedRows) (terms : Rates) (known : BriefFields) → AreBooksOrdered h
     → Some row ≡ option_map row_of (pledge_in (get h.books b) n) → (terms ≡ known.agreement.terms) × (row.version ≡ known.agreement.version)
     → (related.terms ≡ Some terms) × (related.booking ≡ booking_of (pledge_in (get h.books b) n)) × (related.totals ≡ totals_in (pledge_in (get h.books b) n))
-    → HasTermsOf (get h.books b) known → AreTold (Some (record { row = row; related = related })) (pledge_in (get h.books b) n)
+    → HasTermsOf (get h.books b) known → IsPledgeRow (Some (record { row = row; related = related })) (pledge_in (get h.books b) n)
 known_told h b n row related terms known ordered found same beside has = let r = row_is (pledge_in (get h.books b) n) row found in
     told_of h b n known.agreement.version r.0 (record { row = row; related = related }) r.1 r.2 (sym same.1)
     (related_told h b n known.agreement.version related ordered (beside.0 ∙ ap Some same.0 ∙ sym has) beside.1 beside.2)
 
 -- .. which is of a pledge that stands
-told_is : (o : Option PledgeValue) (t : StoredPledge) → AreTold (Some t) o → (p : PledgeValue) × (o ≡ Some p) × (t.row ≡ row_of p) × AreRelated t.related p
+told_is : (o : Option PledgeValue) (t : StoredPledge) → IsPledgeRow (Some t) o → (p : PledgeValue) × (o ≡ Some p) × (t.row ≡ row_of p) × AreRelated t.related p
 told_is None t told = absurd told
 told_is (Some p) t told = (p, refl, told.0, told.1)
 
 -- what was joined of what was found of a pledge, or why it was not
 pub joined_told : {A L : Type 0} (h : Host) (b n : ℕ) (found : Option StoredPledge) (t : StoredPledge) (l : L) (Are : L → PledgeValue → Type 0)
-    (shows : PledgeValue → A) (Q : PledgeValue → Type 0) (r : Result A KeepError) (number : ℕ) → number ≡ n → AreBooksOrdered h → found ≡ Some t → AreTold found
-    (pledge_in (get h.books b) n) → IfSome (pledge_in (get h.books b) n) (Are l) → ((q : PledgeValue) → number ≡ q.agreement.number → t.row ≡ row_of q
+    (shows : PledgeValue → A) (Q : PledgeValue → Type 0) (r : Result A KeepError) (number : ℕ) → number ≡ n → AreBooksOrdered h → found ≡ Some t
+    → IsPledgeRow found (pledge_in (get h.books b) n) → IfSome (pledge_in (get h.books b) n) (Are l)
+    → ((q : PledgeValue) → number ≡ q.agreement.number → t.row ≡ row_of q
     → AreRelated t.related q → Are l q → IsRead r (shows q) (Q q)) → (p : PledgeValue) × (pledge_in (get h.books b) n ≡ Some p) × IsRead r (shows p) (Q p)
 joined_told h b n found t l Are shows Q r number named ordered is told lists read =
-    let k = told_is (pledge_in (get h.books b) n) t (subst (λ f. AreTold f (pledge_in (get h.books b) n)) is told) in
+    let k = told_is (pledge_in (get h.books b) n) t (subst (λ f. IsPledgeRow f (pledge_in (get h.books b) n)) is told) in
     (k.0, k.1, read k.0 (named ∙ sym (number_in h b n k.0 ordered k.1)) k.2 k.3 (subst (λ o. IfSome o (Are l)) k.1 lists))

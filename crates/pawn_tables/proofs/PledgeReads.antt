@@ -214,8 +214,8 @@ module _ (old new : State) (ours : HasOurTables old.now.schema) (h : Host) (t : 
   pub alone_shown : {A : Type 0} (told : A → Row) (part : Option PledgeValue → Option A) → ((o : Option PledgeValue)
       → map cells (rows_at o (f b)) ≡ at_most_one told (part o)) → Asks (with_indexes ours.more) sql (over_table t.tree text.of_pledge shows []) names
       → Shown sql (number b ∷ number n ∷ []) old new rows → rows ≡ at_most_one told (part (pledge_in (get h.books b) n))
-  alone_shown told part tells asks shown = one_listed rows _ (few_of told (part (pledge_in (get h.books b) n))) (subst (λ xs. IsPermutation xs rows)
-      (ap (map cells) of_one ∙ tells (pledge_in (get h.books b) n)) (shown_listed (with_indexes ours.more) t.tree list.is_tree t text.of_pledge shows
+  alone_shown told part states asks shown = one_listed rows _ (few_of told (part (pledge_in (get h.books b) n))) (subst (λ xs. IsPermutation xs rows)
+      (ap (map cells) of_one ∙ states (pledge_in (get h.books b) n)) (shown_listed (with_indexes ours.more) t.tree list.is_tree t text.of_pledge shows
       (number b ∷ number n ∷ []) (at_pledge b n) cells (list.of_pledge b n) shows_is sql names [] asks old new (of_pledges h f) rows ours.is list.holds shown))
 
   -- which rise in the column after the number
@@ -253,8 +253,8 @@ module _ (old new : State) (ours : HasOurTables old.now.schema) (h : Host) (t : 
   -- one at most
   pub one_shown : {A : Type 0} (told : A → Row) (o : Option A) → map cells (filter third (rows_at (pledge_in (get h.books b) n) (f b))) ≡ at_most_one told o
       → Asks (with_indexes ours.more) sql (over_table t.tree tests shows []) names → Shown sql params old new rows → rows ≡ at_most_one told o
-  one_shown told o tells asks shown =
-      one_listed rows _ (few_of told o) (subst (λ xs. IsPermutation xs rows) (ap (map cells) passing ∙ tells)
+  one_shown told o states asks shown =
+      one_listed rows _ (few_of told o) (subst (λ xs. IsPermutation xs rows) (ap (map cells) passing ∙ states)
       (shown_listed (with_indexes ours.more) t.tree list.is_tree t tests shows params at_third cells passes_is shows_is sql names [] asks old new
       (of_pledges h f) rows ours.is list.holds shown))
 

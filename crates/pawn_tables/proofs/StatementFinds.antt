@@ -36,11 +36,11 @@ with_rests (Err (Keeper.Store NoRecord)) P R U f rests = f
 with_rests (Err (Keeper.Store Database)) P R U f rests = tt
 
 -- of the program's tables, which tell of a host: what the rows of a query tell, while the tables rest
-found_of : {A : Type 0} (Tell : Tables → Host → Type 0) → ((db : Tables) (h : Host) → Tell db h → HasOurTables db.schema)
+found_of : {A : Type 0} (Relates : Tables → Host → Type 0) → ((db : Tables) (h : Host) → Relates db h → HasOurTables db.schema)
     → (IsUnsound : Host → Type 0) (old new : State) (params : Row) (rows : List Row) (r : Result A KeepError) (P : Host → A → Type 0) (text : List ℕ)
     → ((more : List Index) → IsPlain (understood (with_indexes more) text)) → IsLent old new true → (HasCleanDisk new → Shown text params old new rows)
-    → ((h : Host) → Tell old.now h → Shown text params old new rows → Finds r (P h) (IsUnsound h)) → FindsOf Tell IsUnsound old new r P
-found_of Tell schema IsUnsound old new params rows r P text plain lent shows find clean within h stood = let st = stood (lent.opened clean within refl) in
+    → ((h : Host) → Relates old.now h → Shown text params old new rows → Finds r (P h) (IsUnsound h)) → FindsOf Relates IsUnsound old new r P
+found_of Relates schema IsUnsound old new params rows r P text plain lent shows find clean within h stood = let st = stood (lent.opened clean within refl) in
     let shown = shows clean in let ours = schema old.now h st in
     let is_plain = subst (λ (s : Schema). IsPlain (understood s text)) (sym ours.is) (plain ours.more) in
     with_rests r (P h) (Rests old new) (IsUnsound h) (find h st shown) (plain_rests text params old new rows within is_plain shown)

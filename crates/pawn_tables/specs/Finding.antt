@@ -33,7 +33,8 @@ FindsIn IsUnsound old new result P =
 abbrev pub FindsBy : {S A : Type 0} → Ghosts S → MutBor (Held S) → MutBor (Held S) → (Host → Type 0) → Result A KeepError → (Host → A → Type 0) → Type 0
 FindsBy g old new IsUnsound result P = FindsIn IsUnsound (state g old.now) (state g new.now) result P
 
--- like `FindsIn`, but for each host to which the tables are related by `Tell` instead of `StandsFor`
+-- like `FindsIn`, but for each host to which the tables are related by `Relates` instead of `StandsFor`
 abbrev pub FindsOf : {A : Type 0} → (Tables → Host → Type 0) → (Host → Type 0) → State → State → Result A KeepError → (Host → A → Type 0) → Type 0
-FindsOf Tell IsUnsound old new result P =
-    HasCleanDisk new → IsTrue old.in_transaction → (h : Host) → (IsTrue old.is_open → Tell old.now h) → Finds result (λ x. P h x × Rests old new) (IsUnsound h)
+FindsOf Relates IsUnsound old new result P =
+    HasCleanDisk new → IsTrue old.in_transaction → (h : Host) → (IsTrue old.is_open → Relates old.now h)
+    → Finds result (λ x. P h x × Rests old new) (IsUnsound h)

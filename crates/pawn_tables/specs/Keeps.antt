@@ -27,13 +27,13 @@ pub record IsWhole (s : State) : Type 0 where
   pub keeps : Keeps s host
   pub crash : (trees : Trees) → s.may_leave trees → HoldSound trees
 
--- A keeper over a connection. It is honest as long as the disk has returned what was written, and serves while its
+-- A keeper over a connection. It is honest as long as the disk has returned what was written, and usable while its
 -- store is open. It is never steady: its store may fail at any time.
 abbrev pub keeping_by : {K : Type 0} → (K → State) → Keeping K
 keeping_by state = record {
   stands = λ k. Keeps (state k);
   honest = λ k. HasCleanDisk (state k);
-  serves = λ k. IsTrue (state k).is_open;
+  usable = λ k. IsTrue (state k).is_open;
   steady = λ k. ⊥;
   leaves = λ k. Leaves (state k);
   whole = λ k. IsWhole (state k);

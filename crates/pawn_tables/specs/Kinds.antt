@@ -5,7 +5,7 @@ use Rattle.pawn_tables.specs.Common.{BookValue, IsDayNumber, IsNumber, IsWord, P
 use Rattle.pawn_tables.specs.Common.{credit_of, last_element, pledge_in}
 use Rattle.pawn_tables.specs.Entries.{IsEntryDecodable, entries_from}
 use Rattle.pawn_tables.specs.Pages.{IsPage, most_page_rows}
-use Rattle.pawn_tables.specs.PledgeRows.{IsTold}
+use Rattle.pawn_tables.specs.PledgeRows.{IsOpeningDecodable}
 use Rattle.pawn_tables.specs.Rows.{booking_cells, closed_amount, closed_day, closed_number, entry_cells}
 use Rattle.pawn_tables.specs.Rows.{extension_cells, flag, kind_number, number, or_null, secret_cells}
 use Rattle.pawn_tables.specs.declared.kinds.RowKind.{RowKind}
@@ -95,7 +95,7 @@ pub record IsRowOf (kind : RowKind) (given : Option ℕ) (i : RowItem) : Type 0 
 
 -- the texts of a pledge's own row are within their limits, and its days are days of the calendar
 pub record IsOwnDecodable (q : PledgeItem) : Type 0 where
-  pub opening : IsTold q.opening
+  pub opening : IsOpeningDecodable q.opening
   pub taken : IsDayNumber q.taken
   pub last : IsDayNumber q.last
   pub closed : IfSome (closed_day q.closing) IsDayNumber

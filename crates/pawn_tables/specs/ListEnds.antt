@@ -14,7 +14,7 @@ last_seq entries = unwrap_or (option_map (λ (e : Entry). e.seq) (last_element e
 abbrev pub last_issued : List Issued → Option LastSecret
 last_issued secrets = option_map (λ (i : Issued). record { place = length secrets; issued = i }) (last_element secrets)
 
--- the cells of its row, without the pledge's key
+-- the cells of its row, without the pledge's primary key
 abbrev pub last_cells : LastSecret → Row
 last_cells l = secret_cells l.place l.issued
 

@@ -6,15 +6,16 @@ use Rattle.pawn_tables.specs.Common.{debt_of, end_of, last_element, IsText, Book
 use Rattle.pawn_tables.specs.ListEnds.{stored_brief}
 use Rattle.pawn_tables.specs.Rows.{closed_day}
 use Rattle.pawn_tables.specs.declared.credits.Credit.{Credit}
-use Rattle.pawn_tables.specs.declared.joining.Lists.{Lists}
+use Rattle.pawn_tables.specs.declared.joining.PledgeLists.{PledgeLists}
 use Rattle.pawn_tables.specs.declared.joining.RelatedRows.{RelatedRows}
 use Rattle.pawn_tables.specs.declared.joining.StoredPledge.{StoredPledge}
 use Rattle.pawn_tables.specs.declared.records.PledgeRow.{PledgeRow}
 use Rattle.std.specs.Prelude.{◌≡◌, Option, Some, None, IfSome, IsTrue, is_some}
 use Rattle.std.specs.Str.{IsUtf8}
 
--- an opening can be decoded: its texts are within their limits, and its agreed end, if any, is a request's day
-pub record IsTold (o : Opening) : Type 0 where
+-- an opening can be decoded: its texts are within their limits, and its agreed end, if any, is a day
+-- that a request may name
+pub record IsOpeningDecodable (o : Opening) : Type 0 where
   pub reference : IsText most_reference_bytes o.reference × IsUtf8 o.reference
   pub article : IsText most_article_bytes o.article × IsUtf8 o.article
   pub agreed : IfSome o.agreed IsRequestDay
@@ -33,7 +34,7 @@ row_of p = record {
 
 -- the row of a pledge can be decoded: its opening can be, and its days are days of the calendar
 pub record IsRowDecodable (p : PledgeValue) : Type 0 where
-  pub opening : IsTold p.agreement.opening
+  pub opening : IsOpeningDecodable p.agreement.opening
   pub taken : IsDayNumber p.agreement.taken
   pub last : IsDayNumber p.standing.last
   pub closed : IfSome (closed_day p.standing.closing) IsDayNumber
@@ -58,7 +59,7 @@ totals_in None = None
 totals_in (Some p) = Some (totals_of (debt_of p))
 
 -- these are the lists of the pledge
-pub record AreLists (l : Lists) (p : PledgeValue) : Type 0 where
+pub record AreLists (l : PledgeLists) (p : PledgeValue) : Type 0 where
   pub entries : l.entries ≡ p.entries
   pub secrets : l.secrets ≡ p.secrets
   pub extensions : l.extensions ≡ p.extensions
@@ -70,11 +71,11 @@ pub record AreRelated (s : RelatedRows) (p : PledgeValue) : Type 0 where
   pub totals : s.totals ≡ Some (totals_of (debt_of p))
 
 -- this is the row of the pledge with its terms, its booking and its totals; there is none if there is no such pledge
-abbrev pub AreTold : Option StoredPledge → Option PledgeValue → Type 0
-AreTold None None = Unit {0}
-AreTold None (Some p) = ⊥
-AreTold (Some t) None = ⊥
-AreTold (Some t) (Some p) = (t.row ≡ row_of p) × AreRelated t.related p
+abbrev pub IsPledgeRow : Option StoredPledge → Option PledgeValue → Type 0
+IsPledgeRow None None = Unit {0}
+IsPledgeRow None (Some p) = ⊥
+IsPledgeRow (Some t) None = ⊥
+IsPledgeRow (Some t) (Some p) = (t.row ≡ row_of p) × AreRelated t.related p
 
 -- the pledge has a secret
 abbrev pub HasSecret : PledgeValue → Type 0

@@ -71,7 +71,7 @@ import_key imported = option_map (λ i. i.key) imported
 abbrev pub import_count : Option Imported → Option ℕ
 import_count imported = option_map (λ i. i.pledges) imported
 
--- ---- the cells of the rows after their keys
+-- ---- the cells of the rows after their primary keys
 
 abbrev pub head_cells : BookValue → Row
 head_cells k =

@@ -21,7 +21,7 @@ of_books h rows_of = flat_map (λ (e : ℕ × BookValue). rows_of e.0 e.1) (entr
 abbrev pub of_pledges : Host → (ℕ → PledgeValue → List Row) → List Row
 of_pledges h rows_of = of_books h (λ b k. flat_map (rows_of b) k.pledges)
 
--- A book that can be read back in the order of its keys: its pledges are numbered 1, 2, .., and the numbers of each
+-- A book that can be read back in the order of its primary keys: its pledges are numbered 1, 2, .., and the numbers of each
 -- pledge's entries rise. The terms of each pledge are the book's terms under its version.
 pub record IsOrdered (k : BookValue) : Type 0 where
   pub pledges : AreNumberedFrom 1 k.pledges

@@ -104,7 +104,7 @@ pub(crate) fn day_at(row: &Row, at: usize) -> Result<Day, KeepError>
     day_of(number_at(row, at)?)
 }
 
-/// The day with this number, if there is a number. `NoRecord` if it is not a request's day.
+/// The day with this number, if there is a number. `NoRecord` if it is not a day that a request may name.
 pub(crate) fn request_day(number: Option<u64>) -> Result<Option<RequestDay>, KeepError>
     ensures read { IsRead result number (IfSome number IsRequestDay) }
 {

@@ -24,7 +24,7 @@ pub struct Credit {
     pub version: u64,
 }
 
-/// The day with this number. `NoRecord` if it is not a request's day.
+/// The day with this number. `NoRecord` if it is not a day that a request may name.
 fn named_day(number: u64) -> Result<RequestDay, KeepError>
     ensures read { IsRead result number (IsRequestDay number) }
 {

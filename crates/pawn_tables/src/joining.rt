@@ -9,7 +9,7 @@ pub(crate) mod pledges;
 
 /// The lists of a pledge.
 #[derive(Drop)]
-pub(crate) struct Lists {
+pub(crate) struct PledgeLists {
     pub entries: Entries,
     pub secrets: Secrets,
     pub extensions: Extensions,

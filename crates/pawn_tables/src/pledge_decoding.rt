@@ -2,7 +2,7 @@
 ghost use Rattle.pawn_tables.specs.Common.{IsDayNumber, PledgeItem, PledgeValue, Row as Cells};
 ghost use Rattle.pawn_tables.specs.Finding.{IsRead};
 ghost use Rattle.pawn_tables.specs.Kinds.{IsOwnDecodable, own_cells, own_row};
-ghost use Rattle.pawn_tables.specs.PledgeRows.{IsRowDecodable, IsTold, row_of};
+ghost use Rattle.pawn_tables.specs.PledgeRows.{IsRowDecodable, IsOpeningDecodable, row_of};
 ghost use Rattle.pawn_tables.specs.Rows.{at_most_one, closed_day, pledge_cells};
 ghost use Rattle.std.specs.Prelude.{◌≡◌, ◌++◌, Option, IfSome, option_map};
 
@@ -14,7 +14,7 @@ use std::alloc::Global;
 
 /// The opening that the row of a pledge encodes.
 fn opening_at(alloc: Global, row: &Row) -> Result<Opening, KeepError>
-    ensures read { (q : PledgeItem) (more : Cells) → row.now ≡ own_cells q ++ more → IsRead result q.opening (IsTold q.opening) }
+    ensures read { (q : PledgeItem) (more : Cells) → row.now ≡ own_cells q ++ more → IsRead result q.opening (IsOpeningDecodable q.opening) }
 {
     let number = number_at(row, 2)?;
     let credit = number_at(row, 3)?;

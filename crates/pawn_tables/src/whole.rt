@@ -3,12 +3,12 @@
 
 ghost use Rattle.pawn_tables.specs.Common.{get, pledge_in, terms_of, terms_at, IsReachable, IsUnsoundAt, Lends};
 ghost use Rattle.pawn_tables.specs.Finding.{FindsBy};
-ghost use Rattle.pawn_tables.specs.PledgeRows.{AreLists, AreRelated, AreTold};
+ghost use Rattle.pawn_tables.specs.PledgeRows.{AreLists, AreRelated, IsPledgeRow};
 ghost use Rattle.std.specs.Prelude.{◌≡◌, IfOk, IfSome, is_ok};
 
 use crate::cells::NO_RECORD;
 use crate::joining::pledges::join_pledge;
-use crate::joining::{Lists, RelatedRows, StoredPledge};
+use crate::joining::{PledgeLists, RelatedRows, StoredPledge};
 use crate::queries::{
     booking_in, entries_in, extensions_in, row_in, secrets_in, terms_in, totals_in,
 };
@@ -38,14 +38,14 @@ pub(crate) fn lists_in<S: Alter>(
     alloc: Global,
     book: u32,
     number: u32,
-) -> Result<Lists, KeepError>
+) -> Result<PledgeLists, KeepError>
     ensures finds { FindsBy S.Store tx.old.conn tx.new.conn (IsUnsoundAt book) result (λ h l. IfSome (pledge_in (get h.books book) number) (AreLists l)) }
     ensures lent { Lends S.Store tx.old.conn tx.new.conn (is_ok result) }
 {
     let entries = entries_in(tx, alloc, book, number)?;
     let secrets = secrets_in(tx, alloc, book, number)?;
     let extensions = extensions_in(tx, alloc, book, number)?;
-    Ok(Lists {
+    Ok(PledgeLists {
         entries,
         secrets,
         extensions,
@@ -80,7 +80,7 @@ pub(crate) fn stored_pledge_in<S: Alter>(
     book: u32,
     number: u32,
 ) -> Result<Option<StoredPledge>, KeepError>
-    ensures finds { FindsBy S.Store tx.old.conn tx.new.conn (IsUnsoundAt book) result (λ h t. AreTold t (pledge_in (get h.books book) number)) }
+    ensures finds { FindsBy S.Store tx.old.conn tx.new.conn (IsUnsoundAt book) result (λ h t. IsPledgeRow t (pledge_in (get h.books book) number)) }
     ensures lent { Lends S.Store tx.old.conn tx.new.conn (is_ok result) }
 {
     let Some(row) = row_in(tx, alloc, book, number)? else {

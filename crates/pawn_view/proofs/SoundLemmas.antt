@@ -9,7 +9,7 @@ use Rattle.pawn_view.specs.Text.{shown_day}
 use Rattle.std.proofs.Common.{◌≡◌, ◌∙◌, ℕ, ◌≤◌, arith, Some, sym, ap, subst, max}
 
 -- what a statement rests on: the day that is shown, and what is owed on it
-pub record IsTold (p : PledgeValue) : Type 0 where
+pub record IsOpeningDecodable (p : PledgeValue) : Type 0 where
   pub day : (day : ℕ)
       → max (open_or_last p.standing.closing p.standing.last day) (last_of p.agreement.taken p.entries) ≡ shown_day p.standing.closing p.standing.last day
   pub owing : (day : ℕ) → brief_owing (brief_of p) (shown_day p.standing.closing p.standing.last day) ≡ owing_of
@@ -38,7 +38,7 @@ brief_owes : (p : PledgeValue) (x : ℕ) → AreOrdered p.agreement.taken p.entr
     → brief_owing (brief_of p) x ≡ owing_of (due (debt_of p) x)
 brief_owes p x ordered le = ap owing_of (due-from-last (debt_of p) x ordered le)
 
-pub told_of_sound : (h : Host) → IsSound h → (book number : ℕ) (p : PledgeValue) → pledge_at h book number ≡ Some p → IsTold p
+pub told_of_sound : (h : Host) → IsSound h → (book number : ℕ) (p : PledgeValue) → pledge_at h book number ≡ Some p → IsOpeningDecodable p
 told_of_sound h sound book number p is =
     let replayable : IsReplayable p = (reachable_at h book number p sound is).0.replayable in
     let entered : ℕ = last_of p.agreement.taken p.entries in

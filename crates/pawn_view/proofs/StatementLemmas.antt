@@ -1,6 +1,6 @@
 -- A statement, put part by part.
 use Rattle.pawn_debt.specs.declared.owing.Owing.{Owing}
-use Rattle.pawn_view.proofs.SoundLemmas.{IsTold}
+use Rattle.pawn_view.proofs.SoundLemmas.{IsOpeningDecodable}
 use Rattle.pawn_view.specs.Common.{BriefFields, End, Flow, Front, Handed, IsShare, KeepError, PledgeValue, PutFront}
 use Rattle.pawn_view.specs.Common.{Puts, PutsLine, PutsShare, ViewFault, Whole, Writing, Written, brief_of, brief_owing}
 use Rattle.pawn_view.specs.Common.{brief_status, call_end, debt_of, due, end_of, result_of_text, flat_map, owing_of}
@@ -29,7 +29,7 @@ first_of_brief p b is = ap brief_first is
 abbrev pub brief_day : BriefFields → ℕ → ℕ
 brief_day b day = max (open_or_last b.standing.closing b.standing.last day) b.totals.day
 
-state_of_brief : (p : PledgeValue) (b : BriefFields) (v day : ℕ) → b ≡ brief_of p → IsTold p → v ≡ brief_day b day
+state_of_brief : (p : PledgeValue) (b : BriefFields) (v day : ℕ) → b ≡ brief_of p → IsOpeningDecodable p → v ≡ brief_day b day
     → brief_state b v ≡ state_on (shown_day p.standing.closing p.standing.last day) p
 state_of_brief p b v day is told v_is =
     let day_is : v ≡ shown_day p.standing.closing p.standing.last day = v_is ∙ ap (λ (x : BriefFields). brief_day x day) is ∙ told.day day in
@@ -71,7 +71,7 @@ statement_cut contents a b c day p brief is first extended =
 
 -- a statement whose parts were all put
 pub statement_whole : {W : Type 0} (contents : W → Option (List ℕ)) (a b c d e : Writing W) (day v : ℕ) (p : PledgeValue) (brief : BriefFields) (end : End)
-    → brief ≡ brief_of p → IsTold p → v ≡ brief_day brief day → Puts contents a (brief_first brief) b
+    → brief ≡ brief_of p → IsOpeningDecodable p → v ≡ brief_day brief day → Puts contents a (brief_first brief) b
     → PutsShare contents b (flat_map extended_line p.extensions) Whole c → Puts contents c (brief_state brief v) d
     → PutsShare contents d (flat_map entry_line p.entries) end e → PutsShare contents a (statement_text day p) end e
 statement_whole contents a b c d e day v p brief end is told v_is first extensions state lines =

@@ -67,9 +67,9 @@ held_once body (Err e) (Err f) x y =
 
 asked_once : (body : List ℕ) (book : ℕ) (asked : Asks) (a b : Result Request WireFault) → IsAsked body book asked a → IsAsked body book asked b → a ≡ b
 asked_once body book (Asks.Whole caller) a b x y = x ∙ sym y
-asked_once body book (Asks.Import key importing) a b x y =
+asked_once body book (Asks.Import key import_key) a b x y =
     let once = held_once body x.0 y.0 x.1 y.1 in
-    x.2 ∙ ap (λ held. after held (λ rows. Ok (record { book = book; caller = Broker key (Import importing rows) }))) once ∙ sym y.2
+    x.2 ∙ ap (λ held. after held (λ rows. Ok (record { book = book; caller = Broker key (Import import_key rows) }))) once ∙ sym y.2
 
 outlined_once : (body : List ℕ) (said : Result Outline WireFault) (a b : Result Request WireFault) → IsOutlined body said a → IsOutlined body said b → a ≡ b
 outlined_once body (Ok outline) a b x y = asked_once body outline.book outline.asks a b x y

@@ -226,7 +226,7 @@ IsTargetWithin other = Unit {0}
 -- what is asked is within its limits
 abbrev AreAsksWithin : Asks → Type 0
 AreAsksWithin (Asks.Whole caller) = IsCallerWithin caller
-AreAsksWithin (Asks.Import key importing) = Unit {0}
+AreAsksWithin (Asks.Import key import_key) = Unit {0}
 
 asks_within : (target : Target) (fields : List Pair) (body : List ℕ) (caller : Asks) → IsTargetWithin target
     → asks_said target fields body ≡ Ok caller → AreAsksWithin caller
@@ -257,8 +257,8 @@ asks_within Export fields body caller within e =
     let same : Asks.Whole (Viewer key.0 seen.Rows) ≡ caller = cc (key.2) in subst AreAsksWithin same tt
 asks_within Import fields body caller within e =
     let key = after_ok (key_of fields) _ caller e in
-    let importing = after_ok (key_given (codes "import-key") fields) _ caller key.2 in
-    let same : Asks.Import key.0 importing.0 ≡ caller = cc (importing.2) in subst AreAsksWithin same tt
+    let import_key = after_ok (key_given (codes "import-key") fields) _ caller key.2 in
+    let same : Asks.Import key.0 import_key.0 ≡ caller = cc (import_key.2) in subst AreAsksWithin same tt
 asks_within Present fields body caller within e =
     let receipts = after_ok (receipts_said (receipt_values fields)) _ caller e in
     let same : Asks.Whole (Bearer (bearer.Present receipts.0)) ≡ caller = cc (receipts.2) in
@@ -317,18 +317,18 @@ abbrev IsWithin : Request → Type 0
 IsWithin request = IsNumber request.book × IsCallerWithin request.caller
 
 -- the rows in a body are replayable
-filled_within : (body : List ℕ) (book key importing : ℕ) (held : Result BookRows WireFault) (request : Request) → IsNumber book → HoldsRows body held
-    → Ok request ≡ after held (λ rows. Ok (record { book = book; caller = Broker key (broker.Import importing rows) })) → IsWithin request
-filled_within body book key importing (Ok rows) request range text same =
-    let is : ◌≡◌ {A = Request} (record { book = book; caller = Broker key (broker.Import importing rows) }) request = cc in
+filled_within : (body : List ℕ) (book key import_key : ℕ) (held : Result BookRows WireFault) (request : Request) → IsNumber book → HoldsRows body held
+    → Ok request ≡ after held (λ rows. Ok (record { book = book; caller = Broker key (broker.Import import_key rows) })) → IsWithin request
+filled_within body book key import_key (Ok rows) request range text same =
+    let is : ◌≡◌ {A = Request} (record { book = book; caller = Broker key (broker.Import import_key rows) }) request = cc in
     subst IsWithin is (range, text.2.0)
-filled_within body book key importing (Err fault) request range text same = absurd cc
+filled_within body book key import_key (Err fault) request range text same = absurd cc
 
 asked_in : (body : List ℕ) (book : ℕ) (asked : Asks) (request : Request) → IsNumber book → AreAsksWithin asked → IsAsked body book asked (Ok request)
     → IsWithin request
 asked_in body book (Asks.Whole caller) request range within same =
     let is : ◌≡◌ {A = Request} (record { book = book; caller = caller }) request = cc in subst IsWithin is (range, within)
-asked_in body book (Asks.Import key importing) request range within it = filled_within body book key importing it.0 request range it.1 it.2
+asked_in body book (Asks.Import key import_key) request range within it = filled_within body book key import_key it.0 request range it.1 it.2
 
 outlined : (body : List ℕ) (said : Result Outline WireFault) (request : Request) → ((outline : Outline) → said ≡ Ok outline → IsOutlineWithin outline)
     → IsOutlined body said (Ok request) → IsWithin request

@@ -43,7 +43,7 @@ asks_said (OnPledge number action) fields body =
 asks_said (ShowDay day) fields body = after (key_of fields) (λ key. Ok (Asks.Whole (Viewer key (seen.Sheet day))))
 asks_said Export fields body = after (key_of fields) (λ key. Ok (Asks.Whole (Viewer key seen.Rows)))
 asks_said Import fields body =
-    after (key_of fields) (λ key. after (key_given (codes "import-key") fields) (λ importing. Ok (Asks.Import key importing)))
+    after (key_of fields) (λ key. after (key_given (codes "import-key") fields) (λ import_key. Ok (Asks.Import key import_key)))
 asks_said Present fields body =
     after (receipts_said (receipt_values fields)) (λ receipts. Ok (Asks.Whole (Bearer (bearer.Present receipts))))
 asks_said (OnReceipt action) fields body =

@@ -42,7 +42,7 @@ IsCallerWithin (Operator key new_book) = IsText MOST_NAME_BYTES new_book.name ×
 IsCallerWithin (Broker key (PutTerms terms)) = Unit {0}
 IsCallerWithin (Broker key (TakePledge opening)) = IsOpening opening
 IsCallerWithin (Broker key (broker.OnPledge n command)) = IsNumber n × IsCommandWithin command
-IsCallerWithin (Broker key (Import importing rows)) = AreReplayable rows.terms rows.pledges
+IsCallerWithin (Broker key (Import import_key rows)) = AreReplayable rows.terms rows.pledges
 IsCallerWithin (Viewer key (seen.Pledge n)) = IsNumber n
 IsCallerWithin (Viewer key (seen.Sheet day)) = IsRequestDay day
 IsCallerWithin (Viewer key seen.Rows) = Unit {0}
@@ -71,14 +71,14 @@ pub record DaysAreSaid : Type 0 where
   pub is : (day : ℕ) (text : List ℕ) → day_said text ≡ Some day → IsRequestDay day × (text ≡ day_text day)
 
 -- an example for a name in braces: 7 for the book, 12 for a pledge, 2024-03-04 for a day
-abbrev pub filling : ℕ → List ℕ
-filling name = if name == 98 then codes "7" else (if name == 100 then codes "2024-03-04" else codes "12")
+abbrev pub example_for : ℕ → List ℕ
+example_for name = if name == 98 then codes "7" else (if name == 100 then codes "2024-03-04" else codes "12")
 
 -- the form of a target, with examples in place of its names in braces
-abbrev pub fill : Bool → List ℕ → List ℕ
-fill in_braces [] = []
-fill true (c ∷ form) = if c == 125 then fill false form else filling c ++ fill true form
-fill false (c ∷ form) = if c == 123 then fill true form else c ∷ fill false form
+abbrev pub with_examples : Bool → List ℕ → List ℕ
+with_examples in_braces [] = []
+with_examples true (c ∷ form) = if c == 125 then with_examples false form else example_for c ++ with_examples true form
+with_examples false (c ∷ form) = if c == 123 then with_examples true form else c ∷ with_examples false form
 
 -- the example that a target for the endpoint has besides its book
 abbrev pub item_for : Endpoint → Option (List ℕ)
@@ -96,7 +96,7 @@ item_for (Endpoint.OnReceipt action) = None
 -- the target of a row of the table is found, with its endpoint and the parts that it names
 abbrev pub IsTargetFound : List ℕ × Endpoint → Type 0
 IsTargetFound row =
-    route_of (fill false row.0) ≡ Some (record { endpoint = row.1; book = Some (codes "7"); item = item_for row.1 })
+    route_of (with_examples false row.0) ≡ Some (record { endpoint = row.1; book = Some (codes "7"); item = item_for row.1 })
 
 abbrev pub TargetsAreFound : Type 0
 TargetsAreFound = Each IsTargetFound table

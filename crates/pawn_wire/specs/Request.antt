@@ -39,9 +39,9 @@ HoldsRows body (Err fault) =
 -- the resulting request; an import has the rows that its body holds, or the fault of its text
 abbrev pub IsAsked : List ℕ → ℕ → Asks → Result Request WireFault → Type 0
 IsAsked body book (Asks.Whole caller) said = said ≡ Ok (record { book = book; caller = caller })
-IsAsked body book (Asks.Import key importing) said =
+IsAsked body book (Asks.Import key import_key) said =
     (held : Result BookRows WireFault) × HoldsRows body held
-    × (said ≡ after held (λ rows. Ok (record { book = book; caller = Broker key (Import importing rows) })))
+    × (said ≡ after held (λ rows. Ok (record { book = book; caller = Broker key (Import import_key rows) })))
 
 -- the request that results from an outline, or the outline's fault
 abbrev pub IsOutlined : List ℕ → Result Outline WireFault → Result Request WireFault → Type 0

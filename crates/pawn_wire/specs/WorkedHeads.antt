@@ -35,8 +35,8 @@ WorkedHeads =
     × IsHead terms_head (record { len = 51; body = 53; closes = true })
 
 -- a field that gives the body's length
-abbrev pub tells_length : List ℕ → Pair
-tells_length value = (codes "Content-Length", value)
+abbrev pub states_length : List ℕ → Pair
+states_length value = (codes "Content-Length", value)
 
 -- a field that states that the body is in another coding
 abbrev pub chunked_coding : Pair
@@ -47,18 +47,18 @@ chunked_coding = (codes "Transfer-Encoding", codes "chunked")
 abbrev pub WorkedLengths : Type 0
 WorkedLengths =
     (body_length [] ≡ Ok 0)
-    × (body_length (tells_length (codes "80") ∷ []) ≡ Ok 80)
+    × (body_length (states_length (codes "80") ∷ []) ≡ Ok 80)
     × (body_length ((codes "content-LENGTH", codes "0080") ∷ []) ≡ Ok 80)
-    × (body_length (tells_length (codes "1048576") ∷ []) ≡ Ok 1048576)
-    × (body_length (tells_length (codes "1048577") ∷ []) ≡ Err HeadFault.BodyTooLong)
-    × (body_length (tells_length (codes "0000000000000000001") ∷ []) ≡ Ok 1)
-    × (body_length (tells_length (codes "9999999999999999999") ∷ []) ≡ Err HeadFault.BodyTooLong)
-    × (body_length (tells_length (codes "00000000000000000001") ∷ []) ≡ Err HeadFault.BadLength)
-    × (body_length (tells_length [] ∷ []) ≡ Err HeadFault.BadLength)
-    × (body_length (tells_length (codes "+5") ∷ []) ≡ Err HeadFault.BadLength)
-    × (body_length (tells_length (codes "5") ∷ tells_length (codes "5") ∷ []) ≡ Err HeadFault.BadLength)
+    × (body_length (states_length (codes "1048576") ∷ []) ≡ Ok 1048576)
+    × (body_length (states_length (codes "1048577") ∷ []) ≡ Err HeadFault.BodyTooLong)
+    × (body_length (states_length (codes "0000000000000000001") ∷ []) ≡ Ok 1)
+    × (body_length (states_length (codes "9999999999999999999") ∷ []) ≡ Err HeadFault.BodyTooLong)
+    × (body_length (states_length (codes "00000000000000000001") ∷ []) ≡ Err HeadFault.BadLength)
+    × (body_length (states_length [] ∷ []) ≡ Err HeadFault.BadLength)
+    × (body_length (states_length (codes "+5") ∷ []) ≡ Err HeadFault.BadLength)
+    × (body_length (states_length (codes "5") ∷ states_length (codes "5") ∷ []) ≡ Err HeadFault.BadLength)
     × (body_length (chunked_coding ∷ []) ≡ Err HeadFault.Transfer)
-    × (body_length (tells_length (codes "+5") ∷ chunked_coding ∷ []) ≡ Err HeadFault.Transfer)
+    × (body_length (states_length (codes "+5") ∷ chunked_coding ∷ []) ≡ Err HeadFault.Transfer)
 
 -- a field that states whether the connection closes
 abbrev pub tells_connection : List ℕ → Pair

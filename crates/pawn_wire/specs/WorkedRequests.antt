@@ -14,7 +14,7 @@ use Rattle.pawn_wire.specs.Request.{outline_by}
 use Rattle.pawn_wire.specs.Types.{Asks, BadBody, BadKey, BadReceipt, BearerAction, BrokerAction, Create, Export, Import}
 use Rattle.pawn_wire.specs.Types.{NoReceipt, NoRoute, OnPledge, OnReceipt, BookTarget, Present, PutTerms, Show, ShowDay}
 use Rattle.pawn_wire.specs.Types.{TakePledge, Target, TooManyReceipts, WireFault, WrongMethod}
-use Rattle.pawn_wire.specs.WorkedHeads.{chunked_coding, tells_length}
+use Rattle.pawn_wire.specs.WorkedHeads.{chunked_coding, states_length}
 use Rattle.std.specs.Prelude.{◌≡◌, ℕ, List, [], ◌∷◌, codes, replicate, false, true, Option, Some, None, Ok, Err}
 use Rattle.pawn_book.specs.declared.request.BrokerRequest.TheVariants as broker
 use Rattle.pawn_book.specs.declared.request.BearerRequest.TheVariants as bearer
@@ -183,22 +183,22 @@ WorkedCommands =
 -- each fault is reported before those that come after it
 abbrev pub WorkedOrder : Type 0
 WorkedOrder =
-    (outline_by (codes "PUT") (codes "/nowhere") (tells_length (codes "x") ∷ chunked_coding ∷ []) (codes "{}") ≡ Err WireFault.Transfer)
-    × (outline_by (codes "PUT") (codes "/nowhere") (tells_length (codes "x") ∷ []) (codes "{}") ≡ Err WireFault.BadLength)
-    × (outline_by (codes "PUT") (codes "/nowhere") (tells_length (codes "1048577") ∷ []) (codes "{}") ≡ Err WireFault.BodyTooLong)
-    × (outline_by (codes "PUT") (codes "/nowhere") (tells_length (codes "3") ∷ []) (codes "{}") ≡ Err WireFault.BadLength)
-    × (outline_by (codes "PUT") (codes "/nowhere") (tells_length (codes "2") ∷ []) (codes "{}") ≡ Err NoRoute)
-    × (outline_by (codes "PUT") (codes "/books/7") (tells_length (codes "2") ∷ []) (codes "{}") ≡ Err WrongMethod)
+    (outline_by (codes "PUT") (codes "/nowhere") (states_length (codes "x") ∷ chunked_coding ∷ []) (codes "{}") ≡ Err WireFault.Transfer)
+    × (outline_by (codes "PUT") (codes "/nowhere") (states_length (codes "x") ∷ []) (codes "{}") ≡ Err WireFault.BadLength)
+    × (outline_by (codes "PUT") (codes "/nowhere") (states_length (codes "1048577") ∷ []) (codes "{}") ≡ Err WireFault.BodyTooLong)
+    × (outline_by (codes "PUT") (codes "/nowhere") (states_length (codes "3") ∷ []) (codes "{}") ≡ Err WireFault.BadLength)
+    × (outline_by (codes "PUT") (codes "/nowhere") (states_length (codes "2") ∷ []) (codes "{}") ≡ Err NoRoute)
+    × (outline_by (codes "PUT") (codes "/books/7") (states_length (codes "2") ∷ []) (codes "{}") ≡ Err WrongMethod)
     × (outline_by (codes "POST") (codes "/books/7/days/2024-02-30") [] [] ≡ Err NoRoute)
     × (outline_by (codes "POST") (codes "/books/7/days/2024-02-29") [] [] ≡ Err WrongMethod)
     × (outline_by (codes "GET") (codes "/books/7/days/2024-02-29") [] [] ≡ Err BadKey)
-    × (outline_by (codes "POST") (codes "/books/7") (tells_length (codes "2") ∷ []) (codes "{}") ≡ Err BadKey)
-    × (outline_by (codes "POST") (codes "/books/7") (tells_length (codes "2") ∷ gives_key operator_key ∷ []) (codes "{}") ≡ Err BadBody)
+    × (outline_by (codes "POST") (codes "/books/7") (states_length (codes "2") ∷ []) (codes "{}") ≡ Err BadKey)
+    × (outline_by (codes "POST") (codes "/books/7") (states_length (codes "2") ∷ gives_key operator_key ∷ []) (codes "{}") ≡ Err BadBody)
     × (outline_by (codes "POST") (codes "/books/7/import") (gives_import_key ∷ []) [] ≡ Err BadKey)
     × (outline_by (codes "POST") (codes "/books/7/import") (gives_key operator_key ∷ []) [] ≡ Err BadKey)
-    × (outline_by (codes "POST") (codes "/books/7/held/redeem") (tells_length (codes "2") ∷ []) (codes "{}") ≡ Err NoReceipt)
-    × (outline_by (codes "POST") (codes "/books/7/held/redeem") (tells_length (codes "2") ∷ presents (codes "1") ∷ []) (codes "{}") ≡ Err BadReceipt)
-    × (outline_by (codes "POST") (codes "/books/7/held/redeem") (tells_length (codes "2") ∷ presents some_receipt_text ∷ []) (codes "{}") ≡ Err BadBody)
+    × (outline_by (codes "POST") (codes "/books/7/held/redeem") (states_length (codes "2") ∷ []) (codes "{}") ≡ Err NoReceipt)
+    × (outline_by (codes "POST") (codes "/books/7/held/redeem") (states_length (codes "2") ∷ presents (codes "1") ∷ []) (codes "{}") ≡ Err BadReceipt)
+    × (outline_by (codes "POST") (codes "/books/7/held/redeem") (states_length (codes "2") ∷ presents some_receipt_text ∷ []) (codes "{}") ≡ Err BadBody)
 
 -- requests of the operator, of a broker and of a bearer
 abbrev pub WorkedRequests : Type 0

@@ -27,7 +27,7 @@ pub(crate) enum Asks {
     /// The caller, with all of what is asked.
     Whole(Caller),
     /// The broker's key, and the import's own key.
-    Import { key: Secret, importing: Secret },
+    Import { key: Secret, import_key: Secret },
 }
 
 /// Returns the key in the field of this name. Fails with `BadKey` if there is no such field, if there are several, or
@@ -136,8 +136,8 @@ fn import(sent: &Sent<'_>) -> Result<Asks, WireFault>
     ensures value { Says result (asks_said Import (pairs_of sent.now.fields) sent.now.body.now) }
 {
     let key = key(&sent.fields)?;
-    let importing = key_under(b"import-key", &sent.fields)?;
-    Ok(Asks::Import { key, importing })
+    let import_key = key_under(b"import-key", &sent.fields)?;
+    Ok(Asks::Import { key, import_key })
 }
 
 /// Reads a bearer's request to show the pledges of receipts.

@@ -63,11 +63,11 @@ fn rows(alloc: Global, body: &[u8]) -> Result<ReplayableRows, WireFault>
 }
 
 /// Returns the broker who asks to fill a book with these rows.
-fn filling(key: Secret, importing: Secret, rows: ReplayableRows) -> Caller
-    ensures value { result ≡ Broker key (Import importing rows) }
+fn import_of_rows(key: Secret, import_key: Secret, rows: ReplayableRows) -> Caller
+    ensures value { result ≡ Broker key (Import import_key rows) }
 {
     let asked = BrokerRequest::Import {
-        key: importing,
+        key: import_key,
         rows,
     };
     Caller::Broker { key, asked }
@@ -80,7 +80,7 @@ fn request_of(alloc: Global, outline: Outline, body: &[u8]) -> Result<Request, W
     let Outline { book, asks } = outline;
     let caller = match asks {
         Asks::Whole(caller) => caller,
-        Asks::Import { key, importing } => filling(key, importing, rows(alloc, body)?),
+        Asks::Import { key, import_key } => import_of_rows(key, import_key, rows(alloc, body)?),
     };
     Ok(Request { book, caller })
 }

@@ -26,7 +26,7 @@ impl Pledge {
     pub fn apply(&mut self, stamp: &Stamp, command: &Command) -> Result<Done, Refusal>
         ensures step { IsStep (pledge_step self.old stamp.now command.now) self.old result self.new }
     {
-        match self.apply_telling(stamp, command) {
+        match self.apply_with_report(stamp, command) {
             Ok(applied) => Ok(applied.done),
             Err(refusal) => Err(refusal),
         }
@@ -34,7 +34,11 @@ impl Pledge {
 
     /// Carries out one command as `apply` does, and also reports whether it changed the pledge. Some commands whose
     /// effect is already there, such as an entry that is sent again, are answered and change nothing.
-    pub fn apply_telling(&mut self, stamp: &Stamp, command: &Command) -> Result<Applied, Refusal>
+    pub fn apply_with_report(
+        &mut self,
+        stamp: &Stamp,
+        command: &Command,
+    ) -> Result<Applied, Refusal>
         ensures step { IsApplied (pledge_step self.old stamp.now command.now) self.old result self.new }
     {
         let day = stamp.day.day();

@@ -29,7 +29,7 @@ const ROW_KINDS: [RowKind; 5] = [
 impl<S: Alter> TableKeep<S> {
     /// The rows of one kind of the pledges after number `above`: at most a page of them, and of 32 pledges.
     fn kind_above(&mut self, book: Number, kind: RowKind, above: u32) -> Result<KindPage, KeepError>
-        ensures tells { ReadsOfBook S.Store self.old self.new book result (λ h page. (page.kind ≡ kind) × IsKindPage above (get h.books book) page) }
+        ensures states { ReadsOfBook S.Store self.old self.new book result (λ h page. (page.kind ≡ kind) × IsKindPage above (get h.books book) page) }
     {
         know_settled(&self.conn);
         let mut tx = self.conn.transaction();
@@ -45,7 +45,7 @@ impl<S: Alter> TableKeep<S> {
         kinds: &[RowKind],
         above: u32,
     ) -> Result<Vec<KindPage>, KeepError>
-        ensures tells { ReadsOfBook S.Store self.old self.new book result (λ h pages. AreKindPages kinds.now above (get h.books book) pages.items) }
+        ensures states { ReadsOfBook S.Store self.old self.new book result (λ h pages. AreKindPages kinds.now above (get h.books book) pages.items) }
     {
         let mut pages = Vec::new(self.alloc);
         for index in 0..kinds.len() {
@@ -63,7 +63,7 @@ impl<S: Alter> TableKeep<S> {
         above: u32,
         pages: &mut Vec<KindPage>,
     ) -> Result<(), KeepError>
-        ensures tells { ReadsOfBook S.Store self.old self.new book result
+        ensures states { ReadsOfBook S.Store self.old self.new book result
             (λ h u. AddsKind kind above (get h.books book) pages.old.items pages.new.items) }
     {
         let page = self.kind_above(book, kind, above)?;
@@ -81,7 +81,7 @@ impl<S: Alter> TableKeep<S> {
         number: Number,
         from: u32,
     ) -> Result<Vec<RowItem>, KeepError>
-        ensures tells { ReadsOfBook S.Store self.old self.new book result
+        ensures states { ReadsOfBook S.Store self.old self.new book result
             (λ h page. IsListPage kind from (pledge_in (get h.books book) number) page.items) }
     {
         know_settled(&self.conn);

@@ -26,7 +26,7 @@ impl<S: Alter> TableKeep<S> {
         number: Number,
         from: u32,
     ) -> Result<Entries, KeepError>
-        ensures tells { ReadsOfBook S.Store self.old self.new book result
+        ensures states { ReadsOfBook S.Store self.old self.new book result
             (λ h page. IsEntriesPage from (entries_of (pledge_in (get h.books book) number)) page) }
     {
         know_settled(&self.conn);
@@ -68,7 +68,7 @@ impl<S: Alter> TableKeep<S> {
         number: Number,
         behind: u32,
     ) -> Result<Extensions, KeepError>
-        ensures tells { ReadsOfBook S.Store self.old self.new book result
+        ensures states { ReadsOfBook S.Store self.old self.new book result
             (λ h page. page ≡ page_behind behind (extensions_of (pledge_in (get h.books book) number))) }
     {
         know_settled(&self.conn);

@@ -17,7 +17,7 @@ use sqlite::Alter;
 impl<S: Alter> TableKeep<S> {
     /// How many items a part of a day's sheet has, without its heading.
     fn count_part(&mut self, book: Number, day: Day, part: Part) -> Result<u64, KeepError>
-        ensures tells { ReadsOfBook S.Store self.old self.new book result (λ h count. count ≡ length (part_items part day (pledges_of (get h.books book)))) }
+        ensures states { ReadsOfBook S.Store self.old self.new book result (λ h count. count ≡ length (part_items part day (pledges_of (get h.books book)))) }
     {
         know_settled(&self.conn);
         let mut tx = self.conn.transaction();
@@ -34,7 +34,7 @@ impl<S: Alter> TableKeep<S> {
         part: Part,
         above: u32,
     ) -> Result<Rows<Line>, KeepError>
-        ensures tells { ReadsOfBook S.Store self.old self.new book result (λ h page. IsLinesPage part day above (pledges_of (get h.books book)) page) }
+        ensures states { ReadsOfBook S.Store self.old self.new book result (λ h page. IsLinesPage part day above (pledges_of (get h.books book)) page) }
     {
         know_settled(&self.conn);
         let mut tx = self.conn.transaction();
@@ -132,7 +132,7 @@ impl<S: Alter> TableKeep<S> {
 
     /// The windows of a day that have a confirmed booking, each once, in any order.
     fn windows_on(&mut self, book: Number, day: Day) -> Result<Rows<u64>, KeepError>
-        ensures tells { ReadsOfBook S.Store self.old self.new book result (λ h windows. NamesWindows day (pledges_of (get h.books book)) windows) }
+        ensures states { ReadsOfBook S.Store self.old self.new book result (λ h windows. NamesWindows day (pledges_of (get h.books book)) windows) }
     {
         know_settled(&self.conn);
         let mut tx = self.conn.transaction();

@@ -5,7 +5,7 @@ ghost use Rattle.pawn_tables.specs.PledgeRows.{AreLists, AreRelated, row_of};
 ghost use Rattle.std.specs.Prelude.{◌≡◌, ◌↔◌, IfOk, IfSome, IsTrue, Some};
 
 use crate::cells::NO_RECORD;
-use crate::joining::{Lists, RelatedRows};
+use crate::joining::{PledgeLists, RelatedRows};
 use crate::records::PledgeRow;
 use pawn_book::{Agreement, Booking, KeepError, Number, Parts, Pledge, Standing, Terms};
 use pawn_debt::Totals;
@@ -67,13 +67,13 @@ fn joined_parts(
     row: PledgeRow,
     terms: Terms,
     booking: Option<Booking>,
-    lists: Lists,
+    lists: PledgeLists,
 ) -> Parts
     ensures value { (p : PledgeValue) → number ≡ p.agreement.number → row ≡ row_of p
         → terms ≡ p.agreement.terms → booking ≡ p.standing.booking → AreLists lists p → result ≡ p }
 {
     let (agreement, standing) = record_of(number, row, terms, booking);
-    let Lists {
+    let PledgeLists {
         entries,
         secrets,
         extensions,
@@ -116,7 +116,7 @@ pub(crate) fn join_pledge(
     number: Number,
     row: PledgeRow,
     related: RelatedRows,
-    lists: Lists,
+    lists: PledgeLists,
 ) -> Result<Pledge, KeepError>
     ensures read { (p : PledgeValue) → number ≡ p.agreement.number → row ≡ row_of p → AreRelated related p → AreLists lists p
         → IsRead result p (IsReachable p) }

@@ -5,7 +5,7 @@ use Rattle.pawn_book.proofs.acting.act.Goals as goal
 
 pub returns-in_err-planned-clause-acts : goal.returns-in_err-planned-clause-acts
 returns-in_err-planned-clause-acts g c = λ honest h sound at.
-    let told = c.plan.ensures.reads.tells honest h at sound in
+    let told = c.plan.ensures.reads.states honest h at sound in
     let plans = subst (Plans h c.args.request.now.book (step_of h c.args.operator c.args.stamp.now c.args.request.now)) c.in_err-planned.was told in
     let said : c.from_residual.result ≡ Err c.in_err-planned.field-0.0 = search rules in
     subst (λ r. Acts h c.args.operator c.args.stamp.now c.args.request.now r (g.K.Keep.keeping.stands c.plan.new.keep)) (sym said)
@@ -15,7 +15,7 @@ returns-in_err-planned-clause-acts g c = λ honest h sound at.
 pub returns-in_err-done-clause-acts : goal.returns-in_err-done-clause-acts
 returns-in_err-done-clause-acts g c = λ honest h sound at.
     let was = c.commit.ensures.on.was_honest honest in
-    let told = c.plan.ensures.reads.tells was h at sound in
+    let told = c.plan.ensures.reads.states was h at sound in
     let plans = subst (Plans h c.args.request.now.book (step_of h c.args.operator c.args.stamp.now c.args.request.now)) c.in_ok-planned.was told in
     let made = c.commit.ensures.commits honest h sound (c.plan.ensures.reads.same was h at) in
     let said : c.from_residual-in_err-done.result ≡ Err c.in_err-done.field-0.0 = search rules in
@@ -27,7 +27,7 @@ returns-in_err-done-clause-acts g c = λ honest h sound at.
 pub returns-clause-acts : goal.returns-clause-acts
 returns-clause-acts g c = λ honest h sound at.
     let was = c.commit.ensures.on.was_honest honest in
-    let told = c.plan.ensures.reads.tells was h at sound in
+    let told = c.plan.ensures.reads.states was h at sound in
     let plans = subst (Plans h c.args.request.now.book (step_of h c.args.operator c.args.stamp.now c.args.request.now)) c.in_ok-planned.was told in
     let made = c.commit.ensures.commits honest h sound (c.plan.ensures.reads.same was h at) in
     made_acts h c.args.operator c.args.stamp.now c.args.request.now
@@ -37,7 +37,7 @@ returns-clause-acts g c = λ honest h sound at.
 pub returns-in_err-done-clause-crash : goal.returns-in_err-done-clause-crash
 returns-in_err-done-clause-crash g c = λ honest h sound at left by.
     let was = c.commit.ensures.on.was_honest honest in
-    let told = c.plan.ensures.reads.tells was h at sound in
+    let told = c.plan.ensures.reads.states was h at sound in
     let plans = subst (Plans h c.args.request.now.book (step_of h c.args.operator c.args.stamp.now c.args.request.now)) c.in_ok-planned.was told in
     let made = c.commit.ensures.crash honest h sound (c.plan.ensures.reads.same was h at) left by in
     let said : c.from_residual-in_err-done.result ≡ Err c.in_err-done.field-0.0 = search rules in
@@ -49,7 +49,7 @@ returns-in_err-done-clause-crash g c = λ honest h sound at left by.
 pub returns-clause-crash : goal.returns-clause-crash
 returns-clause-crash g c = λ honest h sound at left by.
     let was = c.commit.ensures.on.was_honest honest in
-    let told = c.plan.ensures.reads.tells was h at sound in
+    let told = c.plan.ensures.reads.states was h at sound in
     let plans = subst (Plans h c.args.request.now.book (step_of h c.args.operator c.args.stamp.now c.args.request.now)) c.in_ok-planned.was told in
     let stood = c.plan.ensures.reads.same was h at in
     let made = subst (λ r. Commits h c.in_ok-planned.planned.change r (g.K.Keep.keeping.stands c.commit.new.keep)) c.in_ok-done.was

@@ -5,9 +5,9 @@ use Rattle.pawn_opening.proofs.recognising.recognise.Goals as goal
 pub returns-in-Ok : goal.returns-in-Ok
 returns-in-Ok g c = record {
   recognised = accepted_schema (state g.S.Store c.args.conn.now)
-      (state g.S.Store c.schema_noted.new.conn) c.in-Ok.noted c.expect_ours.result c.in-Ok.ensures.tells c.expect_ours.ensures.accepts;
+      (state g.S.Store c.schema_noted.new.conn) c.in-Ok.noted c.expect_ours.result c.in-Ok.ensures.states c.expect_ours.ensures.accepts;
 }
 
 pub returns-in-Err : goal.returns-in-Err
 returns-in-Err g c =
-    record { recognised = unaccepted (state g.S.Store c.args.conn.now) (state g.S.Store c.schema_noted.new.conn) c.in-Err.why c.in-Err.ensures.tells }
+    record { recognised = unaccepted (state g.S.Store c.args.conn.now) (state g.S.Store c.schema_noted.new.conn) c.in-Err.why c.in-Err.ensures.states }

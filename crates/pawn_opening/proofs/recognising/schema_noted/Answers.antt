@@ -6,19 +6,19 @@ use Rattle.pawn_opening.proofs.recognising.schema_noted.Goals as goal
 
 pub returns-in-Ok : goal.returns-in-Ok
 returns-in-Ok g c = record {
-  tells = told (state g.S.Store c.args.conn.now) (state g.S.Store c.query_all.new.self)
+  states = told (state g.S.Store c.args.conn.now) (state g.S.Store c.query_all.new.self)
       (c.query_all.ensures.mode c.requires.rests) c.query_all.ensures.survives c.in-Ok.rows.items c.number_of.result c.in-Ok.ensures.ok
       (subst (λ rows. IsNumberRead rows c.number_of.result) c.deref.ensures.value c.number_of.ensures.read);
 }
 
 pub returns-in-Err : goal.returns-in-Err
 returns-in-Err g c = record {
-  tells = failed (state g.S.Store c.args.conn.now) (state g.S.Store c.query_all.new.self) (c.query_all.ensures.mode c.requires.rests)
+  states = failed (state g.S.Store c.args.conn.now) (state g.S.Store c.query_all.new.self) (c.query_all.ensures.mode c.requires.rests)
       c.query_all.ensures.survives (search rules) c.in-Err.error c.in-Err.ensures.err c.opening_fault.result c.opening_fault.ensures.store;
 }
 
 pub returns-in-Err-SqlInputError : goal.returns-in-Err-SqlInputError
 returns-in-Err-SqlInputError g c = record {
-  tells = untold (state g.S.Store c.args.conn.now) (state g.S.Store c.query_all.new.self) (c.query_all.ensures.mode c.requires.rests)
+  states = untold (state g.S.Store c.args.conn.now) (state g.S.Store c.query_all.new.self) (c.query_all.ensures.mode c.requires.rests)
       c.query_all.ensures.survives (search rules) _ c.in-Err-SqlInputError.ensures.err c.in-Err-SqlInputError.field-0-0 c.in-Err-SqlInputError.field-0-is;
 }

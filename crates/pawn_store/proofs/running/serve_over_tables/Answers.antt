@@ -13,7 +13,7 @@ pub loop-turn-init : goal.loop-turn-init
 loop-turn-init g c = record {
   counted = refl;
   stays = record {
-    on = record { was_honest = λ honest. honest; served = λ honest serves. serves; stays = λ steady. steady; whole = λ honest whole. whole };
+    on = record { was_honest = λ honest. honest; was_usable = λ honest usable. usable; stays = λ steady. steady; whole = λ honest whole. whole };
     operator = refl;
   };
   served = λ honest h sound at. served_none (goes_none (keeping_by (λ k. state g.S.Store k.conn)) (service_keep c.args.service.now) h at sound);

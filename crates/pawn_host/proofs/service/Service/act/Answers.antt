@@ -9,9 +9,9 @@ returns-in-Err-clause-acted g c = λ honest h sound at bytes read.
     let operator = service_operator c.args.self.now in
     let stands = g.K.Keep.keeping.stands c.plan.new.keep in
     let why = c.in-Err.refusal in
-    let plans = rw c.in-Err.is at (c.plan.ensures.reads.tells honest h at sound) in
+    let plans = rw c.in-Err.is at (c.plan.ensures.reads.states honest h at sound) in
     let acts = refused_acts h operator c.args.stamp.now c.args.request.now stands why plans (c.plan.ensures.reads.same honest h at) in
-    acted_refused (start_of g.K.Keep.keeping c.args.self.now h) c.args.stamp.now bytes c.refuse.result _ c.args.request.now why read c.refuse.ensures.tells
+    acted_refused (start_of g.K.Keep.keeping c.args.self.now h) c.args.stamp.now bytes c.refuse.result _ c.args.request.now why read c.refuse.ensures.states
     (goes_read c.plan.ensures.reads honest h at sound) acts.1 (λ steady store. c.plan.ensures.steady steady (err_is c.plan.result why c.in-Err.is store))
 
 pub returns-in-Ok-done-clause-acted : goal.returns-in-Ok-done-clause-acted
@@ -21,7 +21,7 @@ returns-in-Ok-done-clause-acted g c = λ honest h sound at bytes read.
     let leaves = g.K.Keep.keeping.leaves in
     let before = c.commit.ensures.on.was_honest honest in
     let made = c.in-Ok.planned in
-    let plans = rw c.in-Ok.is at (c.plan.ensures.reads.tells before h at sound) in
+    let plans = rw c.in-Ok.is at (c.plan.ensures.reads.states before h at sound) in
     let stood = c.plan.ensures.reads.same before h at in
     let commits = rw c.in-Ok-done.is at (c.commit.ensures.commits honest h sound stood) in
     let acts = made_acts h operator c.args.stamp.now c.args.request.now stands made.change made.reply sound plans commits in
@@ -38,7 +38,7 @@ returns-in-Err-done-clause-acted g c = λ honest h sound at bytes read.
     let before = c.commit.ensures.on.was_honest honest in
     let why = c.in-Err-done.refusal in
     let made = c.in-Ok.planned in
-    let plans = rw c.in-Ok.is at (c.plan.ensures.reads.tells before h at sound) in
+    let plans = rw c.in-Ok.is at (c.plan.ensures.reads.states before h at sound) in
     let stood = c.plan.ensures.reads.same before h at in
     let commits = rw c.in-Err-done.is at (c.commit.ensures.commits honest h sound stood) in
     let acts = unmade_acts h operator c.args.stamp.now c.args.request.now stands made.change made.reply why plans commits in
@@ -46,5 +46,5 @@ returns-in-Err-done-clause-acted g c = λ honest h sound at bytes read.
     let goes = goes_unmade start c.args.stamp.now c.args.request.now _ made.change why sound commits acts
     (λ left by. unmade_left h operator c.args.stamp.now c.args.request.now made.change made.reply why (leaves c.args.self.now.keep) (leaves c.plan.new.keep)
     left plans (c.plan.ensures.reads.crash before) (rw c.in-Err-done.is at (c.commit.ensures.crash honest h sound stood left by))) in
-    acted_unmade start c.args.stamp.now bytes c.refuse-in-Err-done.result _ c.args.request.now why read c.refuse-in-Err-done.ensures.tells goes
+    acted_unmade start c.args.stamp.now bytes c.refuse-in-Err-done.result _ c.args.request.now why read c.refuse-in-Err-done.ensures.states goes
     (λ steady store. c.commit.ensures.steady (c.plan.ensures.reads.on.stays steady) (err_is c.commit.result why c.in-Err-done.is store))

@@ -20,7 +20,7 @@ loop-acted-init g c = record {
   fetched = read_none _ _ _ c.requires.fresh c.new-buffer.ensures.nothing;
   room = omega arith;
   stays = record {
-    on = record { was_honest = λ honest. honest; served = λ honest serves. serves; stays = λ steady. steady; whole = λ honest whole. whole };
+    on = record { was_honest = λ honest. honest; was_usable = λ honest usable. usable; stays = λ steady. steady; whole = λ honest whole. whole };
     operator = refl;
   };
   so_far = λ honest h sound at. starts _ (goes_none g.K.Keep.keeping (service_keep c.args.self.now) h at sound) c.new-buffer.ensures.nothing;

@@ -8,7 +8,7 @@ pub returns-in_err-count : goal.returns-in_err-count
 returns-in_err-count g c = record {
   hands = hands_unread (keeping_of g.S.Store) g.V.Visitor.step _ _ _ (Err c.in_err-count.field-0.0) c.from_residual.result c.in_err-count.field-0.0
       (λ h. with_head c.args.part (part_items c.args.part c.args.day (pledges_of (get h.books c.args.book)))) {P = λ h. Unit {0}} refl
-      (search rules) c.in_err-count.ensures.tells.reads c.in_err-count.ensures.tells.errs;
+      (search rules) c.in_err-count.ensures.states.reads c.in_err-count.ensures.states.errs;
 }
 
 pub returns-in-Go : goal.returns-in-Go
@@ -16,8 +16,9 @@ returns-in-Go g c = let items : Host → List SheetItem = λ h. part_items c.arg
     let heading = c.heading-heading.result in
     record {
       hands = hands_after (keeping_of g.S.Store) g.V.Visitor.step _ _ _ _ _ c.hand_part.result (λ h. heading ∷ items h) (λ h. with_head c.args.part (items h))
-          {P = λ h. c.in_ok-count.count ≡ length (items h)} c.in_ok-count.ensures.tells.reads (λ h count. ap (λ i. i ∷ items h) (c.heading-heading.ensures.value
-          ∙ ap (part_head c.args.part) count)) (hands_then (keeping_of g.S.Store) g.V.Visitor.step _ _ _ _ _ _ c.hand_part.result (λ h. heading ∷ []) items
+          {P = λ h. c.in_ok-count.count ≡ length (items h)} c.in_ok-count.ensures.states.reads (λ h count. ap (λ i. i ∷ items h)
+          (c.heading-heading.ensures.value ∙ ap (part_head c.args.part) count))
+          (hands_then (keeping_of g.S.Store) g.V.Visitor.step _ _ _ _ _ _ c.hand_part.result (λ h. heading ∷ []) items
           (hands_item (keeping_of g.S.Store) g.V.Visitor.step _ _ _ heading Go (rw c.in-Go.is at c.visit.ensures.steps)) c.hand_part.ensures.hands);
     }
 
@@ -26,7 +27,8 @@ returns-in-Stop g c = let items : Host → List SheetItem = λ h. part_items c.a
     let heading = c.heading-heading.result in
     record {
       hands = hands_after (keeping_of g.S.Store) g.V.Visitor.step _ _ _ _ _ (Ok Stop) (λ h. heading ∷ items h) (λ h. with_head c.args.part (items h))
-          {P = λ h. c.in_ok-count.count ≡ length (items h)} c.in_ok-count.ensures.tells.reads (λ h count. ap (λ i. i ∷ items h) (c.heading-heading.ensures.value
-          ∙ ap (part_head c.args.part) count)) (hands_ended (keeping_of g.S.Store) g.V.Visitor.step _ _ _ _ (Ok Stop) (Ok Stop) (λ h. heading ∷ []) items
+          {P = λ h. c.in_ok-count.count ≡ length (items h)} c.in_ok-count.ensures.states.reads (λ h count. ap (λ i. i ∷ items h)
+          (c.heading-heading.ensures.value ∙ ap (part_head c.args.part) count))
+          (hands_ended (keeping_of g.S.Store) g.V.Visitor.step _ _ _ _ (Ok Stop) (Ok Stop) (λ h. heading ∷ []) items
           (λ e. cc e) refl (hands_item (keeping_of g.S.Store) g.V.Visitor.step _ _ _ heading Stop (rw c.in-Stop.is at c.visit.ensures.steps)));
     }

@@ -31,14 +31,14 @@ pub returns-in_err-page : goal.returns-in_err-page
 returns-in_err-page g c = record {
   hands = fails_at (keeping_of g.S.Store) g.V.Visitor.step (listed c.args.book c.args.number) (left c.args.book c.args.number) {P = λ h. Unit {0}} _ _ _ _ _
       c.loop-turn.from c.loop-turn.turn c.loop-turn.invariant (Err c.in_err-page.field-0.0) c.from_residual.result c.in_err-page.field-0.0 refl
-      (search rules) c.in_err-page.ensures.tells.reads c.in_err-page.ensures.tells.errs;
+      (search rules) c.in_err-page.ensures.states.reads c.in_err-page.ensures.states.errs;
 }
 
 pub returns-in-Stop : goal.returns-in-Stop
 returns-in-Stop g c = record {
   hands = stops_by (keeping_of g.S.Store) g.V.Visitor.step (listed c.args.book c.args.number) (left c.args.book c.args.number) _ _ _ _ _ _ c.loop-turn.from
       (page_end behind c.loop-turn.from c.in_ok-page.page) c.loop-turn.turn c.loop-turn.invariant c.in_ok-page.page (told c.loop-turn.from c.in_ok-page.page
-      (listed c.args.book c.args.number) c.in_ok-page.ensures.tells.reads) (rw (c.as_slice.ensures.value, c.in-Stop.is) at c.hand_all.ensures.hands);
+      (listed c.args.book c.args.number) c.in_ok-page.ensures.states.reads) (rw (c.as_slice.ensures.value, c.in-Stop.is) at c.hand_all.ensures.hands);
 }
 
 pub returns-then-len-lt-PAGE_ROWS : goal.returns-then-len-lt-PAGE_ROWS
@@ -47,7 +47,7 @@ returns-then-len-lt-PAGE_ROWS g c =
     record {
       hands = ends_by (keeping_of g.S.Store) g.V.Visitor.step (listed c.args.book c.args.number) (left c.args.book c.args.number) _ _ _ _ _ _ c.loop-turn.from
           (page_end behind c.loop-turn.from c.in_ok-page.page) c.loop-turn.turn c.loop-turn.invariant c.in_ok-page.page (told c.loop-turn.from c.in_ok-page.page
-          (listed c.args.book c.args.number) c.in_ok-page.ensures.tells.reads) short (rw (c.as_slice.ensures.value, c.in-Go.is) at c.hand_all.ensures.hands);
+          (listed c.args.book c.args.number) c.in_ok-page.ensures.states.reads) short (rw (c.as_slice.ensures.value, c.in-Go.is) at c.hand_all.ensures.hands);
     }
 
 pub loop-turn-preserved : goal.loop-turn-preserved
@@ -55,14 +55,14 @@ loop-turn-preserved g c = let some : 1 ≤ length c.in_ok-page.page = grind (ari
     rw (c.in_ok-from.ensures.value, c.as_slice-in-loop-turn.ensures.value)
     (goes_by (keeping_of g.S.Store) g.V.Visitor.step (listed c.args.book c.args.number) (left c.args.book c.args.number) _ _ _ _ _ _ c.loop-turn.from
     (page_end behind c.loop-turn.from c.in_ok-page.page) c.loop-turn.turn c.loop-turn.invariant c.in_ok-page.page (told c.loop-turn.from c.in_ok-page.page
-    (listed c.args.book c.args.number) c.in_ok-page.ensures.tells.reads) some (rw (c.as_slice.ensures.value, c.in-Go.is) at c.hand_all.ensures.hands))
+    (listed c.args.book c.args.number) c.in_ok-page.ensures.states.reads) some (rw (c.as_slice.ensures.value, c.in-Go.is) at c.hand_all.ensures.hands))
 
 pub returns-in_err-from : goal.returns-in_err-from
 returns-in_err-from g c = let is : c.from_residual-in_err-from.result ≡ Err c.in_err-from.field-0.0 = search rules in
     let some : 1 ≤ length c.in_ok-page.page = grind (arith, nat_tests, c.len.ensures.value, c.if-len-lt-PAGE_ROWS.false) in
     let given = goes_by (keeping_of g.S.Store) g.V.Visitor.step (listed c.args.book c.args.number) (left c.args.book c.args.number) _ _ _ _ _ _ c.loop-turn.from
     (page_end behind c.loop-turn.from c.in_ok-page.page) c.loop-turn.turn c.loop-turn.invariant c.in_ok-page.page (told c.loop-turn.from c.in_ok-page.page
-    (listed c.args.book c.args.number) c.in_ok-page.ensures.tells.reads) some (rw (c.as_slice.ensures.value, c.in-Go.is) at c.hand_all.ensures.hands) in
+    (listed c.args.book c.args.number) c.in_ok-page.ensures.states.reads) some (rw (c.as_slice.ensures.value, c.in-Go.is) at c.hand_all.ensures.hands) in
     record {
       hands = fails_at (keeping_of g.S.Store) g.V.Visitor.step (listed c.args.book c.args.number) (left c.args.book c.args.number) _ _ _ _ _
           (page_end behind c.loop-turn.from c.in_ok-page.page) (c.loop-turn.turn + 1) given c.from_residual-in_err-from.result

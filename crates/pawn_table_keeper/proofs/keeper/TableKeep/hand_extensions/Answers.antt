@@ -16,13 +16,13 @@ pub returns-in_err-page : goal.returns-in_err-page
 returns-in_err-page g c = record {
   hands = fails_at (keeping_of g.S.Store) g.V.Visitor.step (listed c.args.book c.args.number) (λ n h. drop n (listed c.args.book c.args.number h))
       {P = λ h. Unit {0}} _ _ _ _ _ (c.loop-turn.turn * 64) c.loop-turn.turn c.loop-turn.invariant (Err c.in_err-page.field-0.0) c.from_residual.result
-      c.in_err-page.field-0.0 refl (search rules) c.in_err-page.ensures.tells.reads c.in_err-page.ensures.tells.errs;
+      c.in_err-page.field-0.0 refl (search rules) c.in_err-page.ensures.states.reads c.in_err-page.ensures.states.errs;
 }
 
 pub returns-in-Stop : goal.returns-in-Stop
 returns-in-Stop g c = record {
   hands = pages_stop (keeping_of g.S.Store) g.V.Visitor.step (listed c.args.book c.args.number) _ _ _ _ _ _ c.loop-turn.turn c.loop-turn.invariant
-      c.in_ok-page.page c.in_ok-page.ensures.tells.reads (rw (c.as_slice.ensures.value, c.in-Stop.is) at c.hand_all.ensures.hands);
+      c.in_ok-page.page c.in_ok-page.ensures.states.reads (rw (c.as_slice.ensures.value, c.in-Stop.is) at c.hand_all.ensures.hands);
 }
 
 pub returns-then-len-lt-PAGE_ROWS : goal.returns-then-len-lt-PAGE_ROWS
@@ -30,13 +30,13 @@ returns-then-len-lt-PAGE_ROWS g c =
     let short : length c.in_ok-page.page < most_page_rows = grind (arith, nat_tests, c.len.ensures.value, c.if-len-lt-PAGE_ROWS.true) in
     record {
       hands = pages_end (keeping_of g.S.Store) g.V.Visitor.step (listed c.args.book c.args.number) _ _ _ _ _ _ c.loop-turn.turn c.loop-turn.invariant
-          c.in_ok-page.page c.in_ok-page.ensures.tells.reads short (rw (c.as_slice.ensures.value, c.in-Go.is) at c.hand_all.ensures.hands);
+          c.in_ok-page.page c.in_ok-page.ensures.states.reads short (rw (c.as_slice.ensures.value, c.in-Go.is) at c.hand_all.ensures.hands);
     }
 
 pub loop-turn-preserved : goal.loop-turn-preserved
 loop-turn-preserved g c = let some : 1 ≤ length c.in_ok-page.page = grind (arith, nat_tests, c.len.ensures.value, c.if-len-lt-PAGE_ROWS.false) in
     pages_go (keeping_of g.S.Store) g.V.Visitor.step (listed c.args.book c.args.number) _ _ _ _ _ _ c.loop-turn.turn c.loop-turn.invariant c.in_ok-page.page
-    c.in_ok-page.ensures.tells.reads some (rw (c.as_slice.ensures.value, c.in-Go.is) at c.hand_all.ensures.hands)
+    c.in_ok-page.ensures.states.reads some (rw (c.as_slice.ensures.value, c.in-Go.is) at c.hand_all.ensures.hands)
 
 pub returns : goal.returns
 returns g c = let above : most_extensions < c.loop-turn.turn = grind (arith, nat_tests, c.loop-turn-test.false) in

@@ -34,7 +34,7 @@ returns-in_err-page g c = record {
   hands = fails_at (keeping_of g.S.Store) g.V.Visitor.step (listed c.args.kind c.args.book c.args.number) (left c.args.kind c.args.book c.args.number) {P = λ
       h. Unit {0}} _ _ _ _ _
       c.loop-turn.from c.loop-turn.turn c.loop-turn.invariant (Err c.in_err-page.field-0.0) c.from_residual.result c.in_err-page.field-0.0 refl
-      (search rules) c.in_err-page.ensures.tells.reads c.in_err-page.ensures.tells.errs;
+      (search rules) c.in_err-page.ensures.states.reads c.in_err-page.ensures.states.errs;
 }
 
 pub returns-in-Stop : goal.returns-in-Stop
@@ -43,7 +43,7 @@ returns-in-Stop g c = record {
       _ _ c.loop-turn.from
       (page_end item_end c.loop-turn.from c.in_ok-page.page.items) c.loop-turn.turn c.loop-turn.invariant c.in_ok-page.page.items (told c.args.kind
       c.args.book c.args.number c.loop-turn.from c.in_ok-page.page.items
-      c.in_ok-page.ensures.tells.reads) (rw (c.deref-rows.ensures.value, c.in-Stop.is) at c.hand_all.ensures.hands);
+      c.in_ok-page.ensures.states.reads) (rw (c.deref-rows.ensures.value, c.in-Stop.is) at c.hand_all.ensures.hands);
 }
 
 pub returns-then-rows-lt-PAGE_ROWS : goal.returns-then-rows-lt-PAGE_ROWS
@@ -54,7 +54,7 @@ returns-then-rows-lt-PAGE_ROWS g c =
           _ _ _ _ c.loop-turn.from
           (page_end item_end c.loop-turn.from c.in_ok-page.page.items) c.loop-turn.turn c.loop-turn.invariant c.in_ok-page.page.items (told c.args.kind
           c.args.book c.args.number c.loop-turn.from c.in_ok-page.page.items
-          c.in_ok-page.ensures.tells.reads) short (rw (c.deref-rows.ensures.value, c.in-Go.is) at c.hand_all.ensures.hands);
+          c.in_ok-page.ensures.states.reads) short (rw (c.deref-rows.ensures.value, c.in-Go.is) at c.hand_all.ensures.hands);
     }
 
 pub loop-turn-preserved : goal.loop-turn-preserved
@@ -64,7 +64,7 @@ loop-turn-preserved g c = let some : 1 ≤ length c.in_ok-page.page.items = grin
     c.loop-turn.from
     (page_end item_end c.loop-turn.from c.in_ok-page.page.items) c.loop-turn.turn c.loop-turn.invariant c.in_ok-page.page.items (told c.args.kind c.args.book
     c.args.number c.loop-turn.from c.in_ok-page.page.items
-    c.in_ok-page.ensures.tells.reads) some (rw (c.deref-rows.ensures.value, c.in-Go.is) at c.hand_all.ensures.hands))
+    c.in_ok-page.ensures.states.reads) some (rw (c.deref-rows.ensures.value, c.in-Go.is) at c.hand_all.ensures.hands))
 
 pub returns-in_err-from : goal.returns-in_err-from
 returns-in_err-from g c = let is : c.from_residual-in_err-from.result ≡ Err c.in_err-from.field-0.0 = search rules in
@@ -73,7 +73,7 @@ returns-in_err-from g c = let is : c.from_residual-in_err-from.result ≡ Err c.
     _ _ _ _ _ c.loop-turn.from
     (page_end item_end c.loop-turn.from c.in_ok-page.page.items) c.loop-turn.turn c.loop-turn.invariant c.in_ok-page.page.items (told c.args.kind c.args.book
     c.args.number c.loop-turn.from c.in_ok-page.page.items
-    c.in_ok-page.ensures.tells.reads) some (rw (c.deref-rows.ensures.value, c.in-Go.is) at c.hand_all.ensures.hands) in
+    c.in_ok-page.ensures.states.reads) some (rw (c.deref-rows.ensures.value, c.in-Go.is) at c.hand_all.ensures.hands) in
     record {
       hands = fails_at (keeping_of g.S.Store) g.V.Visitor.step (listed c.args.kind c.args.book c.args.number) (left c.args.kind c.args.book c.args.number) _ _
           _ _ _

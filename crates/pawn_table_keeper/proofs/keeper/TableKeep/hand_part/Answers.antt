@@ -28,14 +28,14 @@ pub returns-in_err-page : goal.returns-in_err-page
 returns-in_err-page g c = record {
   hands = fails_at (keeping_of g.S.Store) g.V.Visitor.step (listed c.args.book c.args.day c.args.part) (left c.args.book c.args.day c.args.part)
       {P = λ h. Unit {0}} _ _ _ _ _ c.loop-turn.above c.loop-turn.turn c.loop-turn.invariant (Err c.in_err-page.field-0.0) c.from_residual.result
-      c.in_err-page.field-0.0 refl (search rules) c.in_err-page.ensures.tells.reads c.in_err-page.ensures.tells.errs;
+      c.in_err-page.field-0.0 refl (search rules) c.in_err-page.ensures.states.reads c.in_err-page.ensures.states.errs;
 }
 
 pub returns-in-Stop : goal.returns-in-Stop
 returns-in-Stop g c = record {
   hands = stops_by (keeping_of g.S.Store) g.V.Visitor.step (listed c.args.book c.args.day c.args.part) (left c.args.book c.args.day c.args.part) _ _ _ _ _ _
       c.loop-turn.above (end c.loop-turn.above c.in_ok-page.page) c.loop-turn.turn c.loop-turn.invariant (map (item_of c.args.part) c.in_ok-page.page)
-      (told c.args.book c.args.day c.args.part c.loop-turn.above c.in_ok-page.page c.in_ok-page.ensures.tells.reads)
+      (told c.args.book c.args.day c.args.part c.loop-turn.above c.in_ok-page.page c.in_ok-page.ensures.states.reads)
       (rw (c.as_slice.ensures.value, c.in-Stop.is) at c.hand_lines.ensures.hands);
 }
 
@@ -45,7 +45,7 @@ returns-then-len-lt-PAGE_ROWS g c =
     record {
       hands = ends_by (keeping_of g.S.Store) g.V.Visitor.step (listed c.args.book c.args.day c.args.part) (left c.args.book c.args.day c.args.part) _ _ _ _ _ _
           c.loop-turn.above (end c.loop-turn.above c.in_ok-page.page) c.loop-turn.turn c.loop-turn.invariant (map (item_of c.args.part) c.in_ok-page.page)
-          (told c.args.book c.args.day c.args.part c.loop-turn.above c.in_ok-page.page c.in_ok-page.ensures.tells.reads) short
+          (told c.args.book c.args.day c.args.part c.loop-turn.above c.in_ok-page.page c.in_ok-page.ensures.states.reads) short
           (rw (c.as_slice.ensures.value, c.in-Go.is) at c.hand_lines.ensures.hands);
     }
 
@@ -56,8 +56,8 @@ loop-turn-preserved g c = let full : 1 ≤ length c.in_ok-page.page = grind (ari
     rw (c.behind_lines-above.ensures.value, c.as_slice-in-loop-turn.ensures.value)
     (goes_by (keeping_of g.S.Store) g.V.Visitor.step (listed c.args.book c.args.day c.args.part)
     (left c.args.book c.args.day c.args.part) _ _ _ _ _ _ c.loop-turn.above (end c.loop-turn.above c.in_ok-page.page) c.loop-turn.turn c.loop-turn.invariant
-    (map (item_of c.args.part) c.in_ok-page.page) (told c.args.book c.args.day c.args.part c.loop-turn.above c.in_ok-page.page c.in_ok-page.ensures.tells.reads)
-    some (rw (c.as_slice.ensures.value, c.in-Go.is) at c.hand_lines.ensures.hands))
+    (map (item_of c.args.part) c.in_ok-page.page) (told c.args.book c.args.day c.args.part c.loop-turn.above c.in_ok-page.page
+    c.in_ok-page.ensures.states.reads) some (rw (c.as_slice.ensures.value, c.in-Go.is) at c.hand_lines.ensures.hands))
 
 pub returns : goal.returns
 returns g c = let above : most_pledges < c.loop-turn.turn = grind (arith, nat_tests, c.loop-turn-test.false) in

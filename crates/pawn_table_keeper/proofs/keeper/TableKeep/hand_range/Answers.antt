@@ -14,15 +14,15 @@ pub returns-in_err-pages : goal.returns-in_err-pages
 returns-in_err-pages g c = record {
   hands = hands_unread (keeping_of g.S.Store) g.V.Visitor.step _ _ _ (Err c.in_err-pages.field-0.0) c.from_residual.result c.in_err-pages.field-0.0
       (λ h. flat_map (number_rows (get h.books c.args.book)) (numbers_from c.args.above 32)) {P = λ h. Unit {0}} refl (search rules)
-      c.in_err-pages.ensures.tells.reads c.in_err-pages.ensures.tells.errs;
+      c.in_err-pages.ensures.states.reads c.in_err-pages.ensures.states.errs;
 }
 
 pub loop-step-init : goal.loop-step-init
 loop-step-init g c = record {
   within = omega arith;
-  pages = c.in_ok-pages.ensures.tells.reads;
+  pages = c.in_ok-pages.ensures.states.reads;
   handed = hands_nothing (keeping_of g.S.Store) g.V.Visitor.step _ _ _ (λ h. flat_map (number_rows (get h.books c.args.book)) (numbers_from c.args.above 0))
-      c.in_ok-pages.ensures.tells.reads (λ h are. refl);
+      c.in_ok-pages.ensures.states.reads (λ h are. refl);
 }
 
 pub returns-in_default : goal.returns-in_default

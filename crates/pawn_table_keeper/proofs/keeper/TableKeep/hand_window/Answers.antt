@@ -12,7 +12,7 @@ pub returns-in_err-page : goal.returns-in_err-page
 returns-in_err-page g c = record {
   hands = hands_unread (keeping_of g.S.Store) g.V.Visitor.step _ _ _
       (Err c.in_err-page.field-0.0) c.from_residual.result c.in_err-page.field-0.0 (λ h. window_sheet (pledges_of (get h.books c.args.book)) c.args.day
-      c.args.window) {P = λ h. Unit {0}} refl (search rules) c.in_err-page.ensures.tells.reads c.in_err-page.ensures.tells.errs;
+      c.args.window) {P = λ h. Unit {0}} refl (search rules) c.in_err-page.ensures.states.reads c.in_err-page.ensures.states.errs;
 }
 
 pub returns-then-is_empty : goal.returns-then-is_empty
@@ -21,7 +21,7 @@ returns-then-is_empty g c = let none : c.in_ok-page.page ≡ [] = search rules i
     let told : Host → Type 0 = λ h. IsLinesPage (part_of.Confirmed c.args.window) c.args.day 0 (pledges_of (get h.books c.args.book)) c.in_ok-page.page in
     record {
       hands = hands_nothing (keeping_of g.S.Store) g.V.Visitor.step c.args.self.now c.lines_above.new.self c.args.visitor.now
-          (λ h. window_sheet (pledges_of (get h.books c.args.book)) c.args.day c.args.window) {P = told} c.in_ok-page.ensures.tells.reads
+          (λ h. window_sheet (pledges_of (get h.books c.args.book)) c.args.day c.args.window) {P = told} c.in_ok-page.ensures.states.reads
           (λ h one. ap (window_items (part_of.Confirmed c.args.window)) (whole_page (part_of.Confirmed c.args.window) c.args.day
           (pledges_of (get h.books c.args.book)) c.in_ok-page.page one (omega (arith, short)) ∙ ap (map (item_of (part_of.Confirmed c.args.window))) none));
     }
@@ -35,7 +35,8 @@ returns-then-len-lt-PAGE_ROWS g c =
     record {
       hands = hands_after (keeping_of g.S.Store) g.V.Visitor.step _ _ _ _
           _ (Ok c.hand_whole.result) (λ h. with_head (part_of.Confirmed c.args.window) lines) (λ h. window_sheet (pledges_of (get h.books
-          c.args.book)) c.args.day c.args.window) {P = told} c.in_ok-page.ensures.tells.reads (λ h one. sym (ap (window_items (part_of.Confirmed c.args.window))
+          c.args.book)) c.args.day c.args.window) {P = told} c.in_ok-page.ensures.states.reads (λ h one. sym (ap
+          (window_items (part_of.Confirmed c.args.window))
           (whole_page (part_of.Confirmed c.args.window) c.args.day (pledges_of (get h.books c.args.book)) page one short) ∙ some_page (part_of.Confirmed
           c.args.window) page some)) (hands_over (keeping_of g.S.Store) g.V.Visitor.step c.lines_above.new.self c.args.visitor.now c.hand_whole.new.visitor
           (with_head (part_of.Confirmed c.args.window) lines) c.hand_whole.result (rw c.as_slice.ensures.value at c.hand_whole.ensures.hands));
@@ -48,6 +49,6 @@ returns g c = let page = c.in_ok-page.page in
     record {
       hands = hands_after (keeping_of g.S.Store) g.V.Visitor.step _ _ _ _ _ c.hand_counted.result
           (λ h. with_head (part_of.Confirmed c.args.window) (part_items (part_of.Confirmed c.args.window) c.args.day (pledges_of (get h.books c.args.book))))
-          (λ h. window_sheet (pledges_of (get h.books c.args.book)) c.args.day c.args.window) {P = told} c.in_ok-page.ensures.tells.reads (λ h one.
+          (λ h. window_sheet (pledges_of (get h.books c.args.book)) c.args.day c.args.window) {P = told} c.in_ok-page.ensures.states.reads (λ h one.
           sym (some_items (part_of.Confirmed c.args.window) c.args.day (pledges_of (get h.books c.args.book)) page some one)) c.hand_counted.ensures.hands;
     }

@@ -1,5 +1,5 @@
 //! Reads which schema a store has.
-ghost use Rattle.pawn_move.specs.Migrating.{KnowsSchema, TellsNumber};
+ghost use Rattle.pawn_move.specs.Migrating.{KnowsSchema, StatesNumber};
 ghost use Rattle.sqlite.specs.Held.{state};
 ghost use Rattle.std.specs.Prelude.{◌≡◌, false};
 
@@ -32,7 +32,7 @@ fn known_schema(noted: Option<u64>) -> Result<u32, MoveFault>
 /// schema. `Store` if the store failed, and `Memory` if out of memory. It is never `Damaged`.
 pub fn schema_of<S: Alter>(conn: &mut Connection<S>) -> Result<u32, MoveFault>
     requires rests { conn.old.in_transaction ≡ false }
-    ensures tells { TellsNumber (state S.Store conn.old) (state S.Store conn.new) result }
+    ensures states { StatesNumber (state S.Store conn.old) (state S.Store conn.new) result }
 {
     match schema_noted(conn) {
         Ok(noted) => known_schema(noted),

@@ -1,6 +1,6 @@
 use Rattle.pawn_opening.proofs.Filled.{filled}
 use Rattle.pawn_opening.specs.Common.{state}
-use Rattle.pawn_opening.proofs.first_content.fill.Goals as goal
+use Rattle.pawn_opening.proofs.first_content.make_first_content.Goals as goal
 
 pub returns-clause-filled : goal.returns-clause-filled
 returns-clause-filled g c =

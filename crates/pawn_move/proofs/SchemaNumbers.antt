@@ -2,11 +2,11 @@
 use Rattle.one_table.specs.Columns.{no_schema}
 use Rattle.pawn_move.proofs.Basics.{as_lists, as_stands, with_tables, MoveFault, NotOurs, NewerSchema, Damaged, Store}
 use Rattle.pawn_move.proofs.Basics.{Memory}
-use Rattle.pawn_move.specs.Migrating.{IsFailure, KnowsSchema, IsMoveTold, IsNotOurs, IsUntellable, TellsNumber}
+use Rattle.pawn_move.specs.Migrating.{IsFailure, KnowsSchema, IsSameNumber, IsNotOurs, HasNoKnownSchema, StatesNumber}
 use Rattle.pawn_move.specs.StandsUnder.{IsSchema, ListsBy, StandsUnder, ThirdIsOurs, listed_under}
 use Rattle.pawn_opening.specs.Common.{everything, understood, State, Host, rows, Holds, notes, with_indexes}
 use Rattle.pawn_opening.specs.Common.{READ_SCHEMA}
-use Rattle.pawn_opening.specs.Opened.{TellsSchema}
+use Rattle.pawn_opening.specs.Opened.{StatesSchema}
 use Rattle.pawn_opening.specs.Refusing.{IsEmptyStore, IsNoted, NotesNoSchema, NotesSchema}
 use Rattle.pawn_opening.specs.declared.fault.OpenFault.{OpenFault}
 use Rattle.pawn_tables.specs.Schema.{first_schema, meta, meta_tree, second_schema}
@@ -79,16 +79,16 @@ notes_none db empty n it = subst Refuses (sym (ap (λ s. understood s READ_SCHEM
 module _ (old new : State) where
   accepted : (r : Result ℕ MoveFault) (o : Option ℕ) → KnowsSchema o r → IsNoted old.now o → IfSome o (λ n. IsTrue new.is_open)
       → IfOk r (λ n. NotesSchema old.now n × IsTrue new.is_open)
-  accepted (Err why) o v is serves = tt
-  accepted (Ok n) None v is serves = absurd (let e = v.0 in cc)
-  accepted (Ok n) (Some m) v is serves = let same : m ≡ n = (let e = v.0 in cc) in (subst (NotesSchema old.now) same is, serves)
+  accepted (Err why) o v is usable = tt
+  accepted (Ok n) None v is usable = absurd (let e = v.0 in cc)
+  accepted (Ok n) (Some m) v is usable = let same : m ≡ n = (let e = v.0 in cc) in (subst (NotesSchema old.now) same is, usable)
 
   known : (r : Result ℕ MoveFault) (o : Option ℕ) → KnowsSchema o r → IfOk r IsSchema
   known (Ok n) o v = v.1
   known (Err why) o v = tt
 
   represented : (n : ℕ) (h : Host) → IsSchema n → StandsUnder n old.now h → (r : Result ℕ MoveFault) (o : Option ℕ) → KnowsSchema o r → IsNoted old.now o
-      → IsMoveTold n r
+      → IsSameNumber n r
   represented n h schema st (Ok m) None v is = absurd (let e = v.0 in cc)
   represented n h schema st (Ok m) (Some k) v is = let same : k ≡ m = (let e = v.0 in cc) in sym same ∙ only_number n old.now h st k is
   represented n h schema st (Err NotOurs) None v is = notes_some n old.now h st is
@@ -105,7 +105,7 @@ module _ (old new : State) where
   represented n h schema st (Err Store) o v is = tt
   represented n h schema st (Err Memory) o v is = tt
 
-  refused : (r : Result ℕ MoveFault) (o : Option ℕ) → KnowsSchema o r → IsNoted old.now o → IfErr r (IsUntellable old.now)
+  refused : (r : Result ℕ MoveFault) (o : Option ℕ) → KnowsSchema o r → IsNoted old.now o → IfErr r (HasNoKnownSchema old.now)
   refused (Ok n) o v is = tt
   refused (Err NotOurs) None v is = inl is
   refused (Err NotOurs) (Some k) (inl none) is = absurd (let e = none in cc)
@@ -126,10 +126,10 @@ module _ (old new : State) where
   bare empty (Err Store) o v is = tt
   bare empty (Err Memory) o v is = tt
 
-  pub told : (noted : Option ℕ) (r : Result ℕ MoveFault) → TellsSchema old new (Ok noted) → KnowsSchema noted r → TellsNumber old new r
+  pub told : (noted : Option ℕ) (r : Result ℕ MoveFault) → StatesSchema old new (Ok noted) → KnowsSchema noted r → StatesNumber old new r
   told noted r it verdict = record {
     known = known r noted verdict;
-    ok = λ clean. accepted r noted verdict (it.ok clean) (it.serves clean);
+    ok = λ clean. accepted r noted verdict (it.ok clean) (it.usable clean);
     stands = λ clean n h schema st. represented n h schema st r noted verdict (it.ok clean);
     refuses = λ clean. refused r noted verdict (it.ok clean);
     empty = λ clean none. bare none r noted verdict (it.ok clean);
@@ -138,7 +138,7 @@ module _ (old new : State) where
     survives = it.survives;
   }
 
-  unmovable : (why : MoveFault) → IsFailure why → IsUntellable old.now why
+  unmovable : (why : MoveFault) → IsFailure why → HasNoKnownSchema old.now why
   unmovable NotOurs none = absurd none
   unmovable NewerSchema none = absurd none
   unmovable Damaged none = absurd none
@@ -152,7 +152,7 @@ module _ (old new : State) where
   none_of_ours Store it = it
   none_of_ours Memory it = it
 
-  pub not_told : (cause : OpenFault) (why : MoveFault) → TellsSchema old new (Err cause) → IsFailure why → TellsNumber old new (Err why)
+  pub not_told : (cause : OpenFault) (why : MoveFault) → StatesSchema old new (Err cause) → IsFailure why → StatesNumber old new (Err why)
   not_told cause why it failure = record {
     known = tt;
     ok = λ clean. tt;
