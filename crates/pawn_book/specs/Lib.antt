@@ -24,6 +24,7 @@ pub mod WorkedSlots
 pub mod WorkedShards
 pub mod WorkedImports
 pub mod WorkedVersions
+pub mod WorkedTakings
 pub mod Common
 pub mod Books
 pub mod WorkedLimits

@@ -1,9 +1,10 @@
-//! Worked examples of slots, imports, versions of terms and shards, and the values of the limits.
+//! Worked examples of slots, imports, versions of terms, pledges that are taken and shards, and the values of the limits.
 
 ghost use Rattle.pawn_book.specs.WorkedImports.{WorkedImports};
 ghost use Rattle.pawn_book.specs.WorkedLimits.{WorkedBookLimits};
 ghost use Rattle.pawn_book.specs.WorkedShards.{WorkedShards};
 ghost use Rattle.pawn_book.specs.WorkedSlots.{WorkedSlots};
+ghost use Rattle.pawn_book.specs.WorkedTakings.{WorkedTakings};
 ghost use Rattle.pawn_book.specs.WorkedVersions.{WorkedVersions};
 
 /// The example of a pledge whose receipt is replaced twice, with the trace of each slot.
@@ -25,6 +26,11 @@ pub fn worked_shards()
 /// The answers of a book to new versions of its terms, with their refusals in order.
 pub fn worked_versions()
     ensures versions { WorkedVersions }
+{}
+
+/// The number of a book's next pledge, with its refusals in order.
+pub fn worked_takings()
+    ensures takings { WorkedTakings }
 {}
 
 /// The values of the limits of books.

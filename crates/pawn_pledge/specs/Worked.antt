@@ -127,6 +127,8 @@ WorkedPledgeRepayments =
     × (answer_on repaid (date 2024 2 29) (Command.Repay 2 0) ≡ Err (Refusal.Debt BadAmount))
     × (answer_on repaid (date 2024 2 29) (Command.Repay 2 (large - 999)) ≡ Err (Refusal.Debt (OverOwing (large - 1000))))
     × (answer_on (ring small) (date 2024 8 1) (Command.Repay 1 1000) ≡ Err Refusal.Passed)
+    × (answer_on (ring_with_grace small) (date 2024 8 5) (Command.Repay 1 1000) ≡ Ok (entry_answer 1 (date 2024 8 5) Repay 1000))
+    × (answer_on (ring_with_grace small) (date 2024 8 6) (Command.Repay 1 1000) ≡ Err Refusal.Passed)
 
 -- a pledge on hold cannot be redeemed until it is released
 abbrev pub WorkedHolds : Type 0
@@ -151,6 +153,8 @@ WorkedDeclarations =
     × (answer_on (ring small_credit) (date 2024 3 2) (Command.Declare Paper.Written) ≡ Ok (Done.Declared 9))
     × (answer_on (changed_by (ring small) (date 2024 3 2) (Command.Declare Paper.Sworn)) (date 2024 3 2) (Command.Declare Paper.Sworn) ≡ Err Refusal.SecretUsed)
     × (reply_of (pledge_step (ring small) (record { day = date 2024 3 2; word = 1 }) (Command.Declare Paper.Sworn)) ≡ Err Refusal.SecretUsed)
+    × (reply_of (pledge_step (changed_by (ring small) (date 2024 3 2) (Command.Declare Paper.Sworn)) (record { day = date 2024 3 2; word = 1 })
+    (Command.Declare Paper.Sworn)) ≡ Err Refusal.SecretUsed)
     × (answer_on many (date 2024 3 2) (Command.Declare Paper.Sworn) ≡ Err Refusal.DeclarationsFull)
     × (answer_on (changed_by (changed_by (ring small) (date 2024 2 1) Command.Hold) (date 2024 2 1) (Command.Declare Paper.Sworn)) (date 2024 2 1)
     (Command.Redeem small) ≡ Err Refusal.Held)
@@ -226,7 +230,7 @@ WorkedRedemptions =
     × (answer_on redeemed (date 2024 3 4) (Command.Redeem large) ≡ Err Refusal.Closed)
     × (answer_on redeemed (date 2024 3 3) (Command.Redeem large) ≡ Err (Refusal.Debt EarlierDay))
 
--- a realisable pledge can be sold, for more or less than the sum owed; its receipt stays live
+-- a realisable pledge can be sold, for more or less than the sum owed, even on hold; its receipt stays live
 abbrev pub WorkedSales : Type 0
 WorkedSales =
     let sold = changed_by (ring large) (date 2024 8 1) (Command.Sell 9000) in
@@ -237,6 +241,7 @@ WorkedSales =
     × (answer_on (ring large) (date 2024 7 31) (Command.Sell 9000) ≡ Err Refusal.NotRealisable)
     × (answer_on (ring_with_grace large) (date 2024 8 5) (Command.Sell 9000) ≡ Err Refusal.NotRealisable)
     × (answer_on (ring small) (date 2024 8 1) (Command.Sell 9000) ≡ Err Refusal.Passed)
+    × (answer_on (changed_by (ring large) (date 2024 2 1) Command.Hold) (date 2024 8 1) (Command.Sell large) ≡ Ok (Done.Sold large 0 0))
     × (live_of sold ≡ Some 1)
     × (status_of sold (date 2024 8 1) ≡ Status.Sold)
     × (answer_on sold (date 2024 8 1) (Command.Sell 9000) ≡ Err Refusal.Closed)

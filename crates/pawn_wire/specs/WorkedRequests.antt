@@ -152,6 +152,8 @@ WorkedBodies =
     ≡ Some (record { key = 0x11111111_1111_1111_1111_111111111111; name = codes "High Street"; capacity = 2 }))
     × (body_said new_terms_of (codes "{\"keep_after\":4,\"keep_before\":3,\"rate\":9,\"rate\":2,\"version\":1}")
     ≡ Some (record { version = 1; rates = record { rate = 2; keep_before = 3; keep_after = 4 } }))
+    × (body_said new_terms_of (codes "{\"keep_after\":4,\"keep_before\":3,\"note\":\"new\",\"rate\":2,\"version\":1}")
+    ≡ Some (record { version = 1; rates = record { rate = 2; keep_before = 3; keep_after = 4 } }))
     × (body_said new_terms_of (codes "{\"keep_after\":4,\"keep_before\":3,\"rate\":1.0,\"version\":1}") ≡ None)
     × (body_said new_terms_of (codes "{\"keep_after\":4,\"keep_before\":3,\"rate\":1000000000000,\"version\":1}") ≡ None)
     × (body_said new_terms_of (codes "{\"keep_after\":4,\"keep_before\":3,\"rate\":2}") ≡ None)

@@ -8,4 +8,4 @@ returns-clause-redemptions c = (refl, refl, refl, refl, refl, refl, refl, refl, 
 
 pub returns-clause-sales : goal.returns-clause-sales
 unfolding civil_after days_of_years days_of_months due_after
-returns-clause-sales c = (refl, refl, refl, refl, refl, refl, refl, refl, refl, refl, refl)
+returns-clause-sales c = (refl, refl, refl, refl, refl, refl, refl, refl, refl, refl, refl, refl)

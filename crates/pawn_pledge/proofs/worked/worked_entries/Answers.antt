@@ -8,4 +8,4 @@ returns-clause-drawings c = (refl, refl, refl, refl, refl, refl, refl)
 
 pub returns-clause-repayments : goal.returns-clause-repayments
 unfolding civil_after days_of_years days_of_months due_after
-returns-clause-repayments c = (refl, refl, refl, refl, refl, refl, refl, refl, refl, refl, refl)
+returns-clause-repayments c = (refl, refl, refl, refl, refl, refl, refl, refl, refl, refl, refl, refl, refl)

@@ -8,4 +8,4 @@ returns-clause-holds c = (refl, refl, refl, refl, refl, refl, refl, refl)
 
 pub returns-clause-declarations : goal.returns-clause-declarations
 unfolding civil_after days_of_years days_of_months due_after
-returns-clause-declarations c = (refl, refl, refl, refl, refl, refl, refl, refl)
+returns-clause-declarations c = (refl, refl, refl, refl, refl, refl, refl, refl, refl)
