@@ -9,7 +9,7 @@ use Rattle.pawn_book.specs.Books.{Bearer, Broker, Caller, Change, Commanded, Imp
 use Rattle.pawn_book.specs.Books.{Operator, Present, PutTerms, Reply, Viewer, TakePledge}
 use Rattle.pawn_book.specs.Common.{Answered, Command, Done, PledgeValue, Stamp, end_of, entry_command, pledge_step}
 use Rattle.pawn_book.specs.Laws.{Asks, BookEntriesActOnce, BookExtensionsActOnce, EntriesActOnceForAll, Passes}
-use Rattle.pawn_book.specs.Laws.{SameEndIsAnswered, StillPasses, book_run}
+use Rattle.pawn_book.specs.Laws.{SameEndIsReplied, StillPasses, book_run}
 use Rattle.pawn_pledge.proofs.Repeats.{entered_again, extended-made, same_end_is_answered}
 use Rattle.std.proofs.Common.{◌≡◌, ℕ, List, Some, refl, ◌∙◌, ap, sym, subst, arith, if◌then◌else◌, is_some, Option}
 use Rattle.std.proofs.Common.{◌==◌, true}
@@ -83,8 +83,8 @@ entry_told before operator b stamp again caller n sort seq pence change reply la
     entry_told_to_all before operator b stamp again caller caller n sort seq pence change reply later sound asks asks is
     (still_passes before operator b stamp caller n (entry_command sort seq pence) change reply later asks is passes)
 
-pub same_end_is_answered : SameEndIsAnswered
-same_end_is_answered book operator b n stamp p at may =
+pub same_end_is_replied : SameEndIsReplied
+same_end_is_replied book operator b n stamp p at may =
     told_to book operator b stamp (Broker book.key (OnPledge n (Command.Extend (end_of p)))) n (Command.Extend (end_of p)) p (Done.Extended (end_of p))
     (refl, refl) (book, refl, refl) at (same_end_is_answered p stamp may)
 

@@ -128,8 +128,8 @@ EntriesActOnceForAll =
     → book_step (book_run (changed_book (Some before) change) operator b later) operator b again other ≡ Says (Replied reply)
 
 -- an extension to the present end is answered with that end and changes nothing, if the pledge may be extended
-abbrev pub SameEndIsAnswered : Type 0
-SameEndIsAnswered =
+abbrev pub SameEndIsReplied : Type 0
+SameEndIsReplied =
     (book : BookValue) (operator b n : ℕ) (stamp : Stamp) (p : PledgeValue)
     → pledge_from 1 book.pledges n ≡ Some p → MayExtend p stamp.day
     → book_step (Some book) operator b stamp (Broker book.key (asked.OnPledge n (Command.Extend (end_of p)))) ≡ Says

@@ -21,7 +21,7 @@ taking pledges pence newest = number_or_refusal (next_pledge
     (record { reference = codes "A1"; article = codes "Gold ring"; kind = Fixed pence; agreed = None; five_days = false })
     (at 1) newest)
 
--- pledges are numbered from 1, without gaps, up to 1,000,000
+-- pledges are numbered from 1, without gaps, up to the greatest number
 pub record WorkedTakings : Type 0 where
   pub first : taking 0 10000 (Some free) ≡ Ok 1
   pub last : taking 999999 10000 (Some free) ≡ Ok 1000000

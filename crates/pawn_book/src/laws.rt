@@ -1,7 +1,7 @@
 //! The laws of books, shards and slots: properties of every run of requests.
 
 ghost use Rattle.pawn_book.specs.Laws.{BookChangesDiffer, BookEntriesActOnce, BookExtensionsActOnce};
-ghost use Rattle.pawn_book.specs.Laws.{EntriesActOnceForAll, RepeatsActOnce, SameEndIsAnswered};
+ghost use Rattle.pawn_book.specs.Laws.{EntriesActOnceForAll, RepeatsActOnce, SameEndIsReplied};
 ghost use Rattle.pawn_book.specs.Passes.{IsOne, KeepsReceipts, Pass, ReplacesNone};
 ghost use Rattle.pawn_book.specs.Shards.{HandedOutAnswersAsOne, HandsAll, ShardsAnswerAsOne};
 ghost use Rattle.pawn_book.specs.Slots.{BearersAddEvents, BooksAnswerAlone, EarlierReceiptsAreSpent};
@@ -29,7 +29,7 @@ pub fn entries_act_once()
 /// An extension to the present end changes nothing, so a repeated extension is made only once while its end is the
 /// present one.
 pub fn extensions_act_once()
-    ensures same_end { SameEndIsAnswered }
+    ensures same_end { SameEndIsReplied }
     ensures law { BookExtensionsActOnce }
 {}
 
