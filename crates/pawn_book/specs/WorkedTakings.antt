@@ -1,11 +1,10 @@
 -- Worked examples of the next pledge of a book: its number, and the refusals in their order.
 use Rattle.pawn_book.specs.BookStep.{next_pledge}
-use Rattle.pawn_book.specs.Common.{PledgeValue, Rates, free}
+use Rattle.pawn_book.specs.Common.{Fixed, PledgeValue, Rates, free}
 use Rattle.pawn_book.specs.WorkedSlots.{at}
 use Rattle.pawn_book.specs.declared.refusal.Refusal.{Refusal}
 use Rattle.pawn_book.specs.declared.refusal.Refusal.TheVariants.{NoTerms, Pledge, PledgesFull}
 use Rattle.pawn_debt.specs.declared.fault.DebtFault.TheVariants.{BadAmount}
-use Rattle.pawn_pledge.specs.declared.kind.Kind.TheVariants.{Fixed}
 use Rattle.pawn_pledge.specs.declared.refusal.Refusal.TheVariants.{Debt}
 use Rattle.std.specs.Prelude.{◌≡◌, ℕ, Option, Some, None, Result, Ok, Err, false, codes}
 
