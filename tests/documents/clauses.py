@@ -22,7 +22,7 @@ RULES = {
     "BookTaken": ("make_book", "plan_book [reads]", "book_tests.rt"),
     "status end period": ("status_by", "status_by [value]", "five_days_ignored", "WorkedStatuses"),
     "requests session": ("HasRoom", "answer_all [room]"),
-    "604": ("in_order", "place_booking [answer]", "RefusesEnd", "borders.py"),
+    "604": ("in_order", "accept_booking [answer]", "RefusesEnd", "borders.py"),
     "302": ("numbered_step", "(is_ahead p seq, Refusal.SeqAhead)", "enter [step]", "description.py"),
     "303": ("(p.standing.held, Refusal.Held)", "redeem [step]", "WorkedHolds", "two_lives.txt"),
     "310": ("redeem_refusals", "redeem [step]", "WorkedRedemptions", "redeemed_one_penny_short"),

@@ -8,8 +8,8 @@ use Rattle.sqlite_schema.specs.declared.schema.Stamps.{Stamps}
 use Rattle.std.specs.Prelude.{true, false, [], None, List, ℕ}
 
 -- a NOT NULL column with a strict type
-abbrev pub filled : List ℕ → Kind → Column
-filled name kind = record { name = name; kind = kind; is_strict = true; not_null = true; default = Null; collation = Binary }
+abbrev pub required : List ℕ → Kind → Column
+required name kind = record { name = name; kind = kind; is_strict = true; not_null = true; default = Null; collation = Binary }
 
 -- a column with a strict type that may be NULL
 abbrev pub blank : List ℕ → Kind → Column

@@ -33,7 +33,7 @@ sound_put book n p q sound is kept reaches words =
     let number : q.agreement.number ≡ n = ap (λ (a : Agreement). a.number) kept.agreement ∙ numbered_at 1 book.pledges n p sound.rows.numbered is in
     let long = length-put 1 book.pledges n q low high in
     let few = sound.rows.few_pledges in
-    let before = each_at HasTextsAndWords 1 book.pledges n p sound.written is in
+    let before = each_at HasTextsAndWords 1 book.pledges n p sound.texts_and_words is in
     record {
       key = sound.key;
       imported = sound.imported;
@@ -52,7 +52,7 @@ sound_put book n p q sound is kept reaches words =
         few_terms = sound.rows.few_terms;
         few_pledges = omega (arith, long, few);
       };
-      written = each_put HasTextsAndWords 1 book.pledges n q sound.written (record {
+      texts_and_words = each_put HasTextsAndWords 1 book.pledges n q sound.texts_and_words (record {
         reference = subst (λ (a : Agreement). IsUtf8 a.opening.reference) (sym kept.agreement) before.reference;
         article = subst (λ (a : Agreement). IsUtf8 a.opening.article) (sym kept.agreement) before.article;
         secrets = words;
@@ -68,7 +68,7 @@ put_saves h b n at p q stamp command done sound is stands day word given step =
     let one = (sound.books b at is).1 in
     let kept = kept_moved p q stamp command done step in
     let reaches = stays_reachable p q stamp command done day given (each_at IsReachable 1 at.pledges n p one.rows.reachable stands) step in
-    let words = words_moved p q stamp command done word (each_at HasTextsAndWords 1 at.pledges n p one.written stands).secrets step in
+    let words = words_moved p q stamp command done word (each_at HasTextsAndWords 1 at.pledges n p one.texts_and_words stands).secrets step in
     let book : BookValue = record at { pledges = put_from 1 at.pledges n q } in
     let same : with_change h (PutPledge b n q) ≡ with_book h b (Some book) =
     changed_is h b (PutPledge b n q) book refl (ap (λ o. changed_book o (PutPledge b n q)) is) in

@@ -176,8 +176,8 @@ step_grows book operator b stamp (Broker key (TakePledge opening)) =
     grows_by book (book.key == key) _ _ (take_pledge_grows book b opening stamp (with_reference book.pledges opening.reference)) (stays book)
 step_grows book operator b stamp (Broker key (OnPledge n command)) =
     grows_by book (book.key == key) _ _ (number_grows book b n stamp command (pledge_from 1 book.pledges n) refl) (stays book)
-step_grows book operator b stamp (Broker key (Import importing rows)) =
-    grows_by book (book.key == key) _ _ (import_grows book b importing rows book.imported refl) (stays book)
+step_grows book operator b stamp (Broker key (Import import_key rows)) =
+    grows_by book (book.key == key) _ _ (import_grows book b import_key rows book.imported refl) (stays book)
 step_grows book operator b stamp (Viewer key (seen.Pledge n)) =
     grows_by book (book.key == key) _ _ (shown_stays book stamp (pledge_from 1 book.pledges n)) (stays book)
 step_grows book operator b stamp (Viewer key (seen.Sheet day)) = grows_by book (book.key == key) _ _ (stays book) (stays book)

@@ -52,9 +52,9 @@ change_differs before operator b stamp caller change reply is same = from (made_
       let after : Some (record book { pledges = put_from 1 book.pledges p.agreement.number p }) ≡ Some book =
       ap (λ o. changed_book o (PutPledge b p.agreement.number p)) (sym stands) ∙ ap (changed_book before) (sym makes) ∙ same ∙ stands in
       grown book.pledges p (sym (next_pledges book opening stamp p answer) ∙ ap (λ (o : Option BookValue). (unwrap_or o book).pledges) after)
-  from (RowsAre key importing rows book asks stands passes unfilled makes says) =
-      let after : Some (filled_book book importing rows) ≡ Some book =
-      ap (λ o. changed_book o (ImportBook b importing rows)) (sym stands) ∙ ap (changed_book before) (sym makes) ∙ same ∙ stands in
+  from (RowsAre key import_key rows book asks stands passes unfilled makes says) =
+      let after : Some (filled_book book import_key rows) ≡ Some book =
+      ap (λ o. changed_book o (ImportBook b import_key rows)) (sym stands) ∙ ap (changed_book before) (sym makes) ∙ same ∙ stands in
       absurd_none (sym unfilled.imported ∙ sym (ap (λ (o : Option BookValue). (unwrap_or o book).imported) after))
   from (CommandIs book n command stands asks did) =
       let after : Some (record book { pledges = put_from 1 book.pledges n did.next }) ≡ Some book =
@@ -142,7 +142,7 @@ asks_not_making (Operator key new) n command asks making = asks
 asks_not_making (Broker key (PutTerms new)) n command asks making = asks
 asks_not_making (Broker key (TakePledge opening)) n command asks making = asks
 asks_not_making (Broker key (OnPledge m own)) n command asks making = making
-asks_not_making (Broker key (Import importing rows)) n command asks making = asks
+asks_not_making (Broker key (Import import_key rows)) n command asks making = asks
 asks_not_making (Viewer key view) n command asks making = asks
 asks_not_making (Bearer asked) n command asks making = making
 
@@ -196,12 +196,12 @@ repeat_told before operator b stamp again caller change reply later making is = 
       else Refuses NoSuchBook) (opens book next key grown.key passes) ∙ ap (take_pledge next b opening again) found.1
       ∙ ap (λ v. if v then Says (Replied (Opened (first_receipt q))) else Refuses RefTaken) (opening_kept p q opening found.2 ∙ same)
       ∙ ap (λ r. Says (Replied (Opened r))) (first_kept p q taken.first.0 taken.first.1 found.2) ∙ ap (λ r. Says (Replied r)) (sym says))
-  from (RowsAre key importing rows book asks stands passes unfilled makes says) =
-      told (filled_book book importing rows) (ap (changed_book before) makes ∙ ap (λ o. changed_book o (ImportBook b importing rows)) stands) (λ next grown.
-      let own = grown.imported (record { key = importing; pledges = length rows.pledges }) refl in
-      ap (book_step (Some next) operator b again) asks ∙ ap (λ v. if v then import_rows (book_head next) b importing rows next.imported else Refuses NoSuchBook)
-      (opens book next key grown.key passes) ∙ ap (import_rows (book_head next) b importing rows) own ∙ ap (λ v. if v then Says
-      (Replied (BookFilled (length rows.pledges))) else Refuses BookNotEmpty) (equal_itself importing) ∙ ap (λ r. Says (Replied r)) (sym says))
+  from (RowsAre key import_key rows book asks stands passes unfilled makes says) =
+      told (filled_book book import_key rows) (ap (changed_book before) makes ∙ ap (λ o. changed_book o (ImportBook b import_key rows)) stands) (λ next grown.
+      let own = grown.imported (record { key = import_key; pledges = length rows.pledges }) refl in
+      ap (book_step (Some next) operator b again) asks ∙ ap (λ v. if v then import_rows (book_head next) b import_key rows next.imported
+      else Refuses NoSuchBook) (opens book next key grown.key passes) ∙ ap (import_rows (book_head next) b import_key rows) own ∙ ap (λ v. if v then Says
+      (Replied (BookFilled (length rows.pledges))) else Refuses BookNotEmpty) (equal_itself import_key) ∙ ap (λ r. Says (Replied r)) (sym says))
   from (CommandIs book n command stands asks did) = absurd (asks_not_making caller n command asks making)
 
 -- the pledge that a command changed is found at its number after any run

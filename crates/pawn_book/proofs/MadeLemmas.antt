@@ -51,8 +51,8 @@ pub data MadeBy (before : Option BookValue) (operator b : ℕ) (stamp : Stamp) (
   PledgeIs : (key : ℕ) (opening : Opening) (book : BookValue) (p : PledgeValue) → caller ≡ Broker key (TakePledge opening) → before ≡ Some book
       → (book.key == key) ≡ true → with_reference book.pledges opening.reference ≡ None → next_pledge (book_head book) opening stamp (newest book.terms) ≡ Ok p
       → change ≡ PutPledge b p.agreement.number p → reply ≡ Opened (first_receipt p) → MadeBy before operator b stamp caller change reply
-  RowsAre : (key importing : ℕ) (rows : BookRows) (book : BookValue) → caller ≡ Broker key (Import importing rows) → before ≡ Some book
-      → (book.key == key) ≡ true → IsUnfilled book → change ≡ ImportBook b importing rows → reply ≡ BookFilled (length rows.pledges)
+  RowsAre : (key import_key : ℕ) (rows : BookRows) (book : BookValue) → caller ≡ Broker key (Import import_key rows) → before ≡ Some book
+      → (book.key == key) ≡ true → IsUnfilled book → change ≡ ImportBook b import_key rows → reply ≡ BookFilled (length rows.pledges)
       → MadeBy before operator b stamp caller change reply
   CommandIs : (book : BookValue) (n : ℕ) (command : Command) → before ≡ Some book → Asks caller n command → DidOn book b n stamp command change reply
       → MadeBy before operator b stamp caller change reply
@@ -148,15 +148,15 @@ made_by (Some book) operator b stamp (Broker key (TakePledge opening)) change re
 made_by (Some book) operator b stamp (Broker key (OnPledge n command)) change reply is =
     let passed = if_makes (book.key == key) _ _ change reply is in
     CommandIs book n command refl (refl, refl) (number_made book b n stamp command (pledge_from 1 book.pledges n) change reply refl passed.1)
-made_by (Some book) operator b stamp (Broker key (Import importing rows)) change reply is =
+made_by (Some book) operator b stamp (Broker key (Import import_key rows)) change reply is =
     let passed = if_makes (book.key == key) _ _ change reply is in from book.imported refl passed.1 where
-      from : (o : Option Imported) → book.imported ≡ o → import_rows (book_head book) b importing rows o ≡ Makes change reply
-          → MadeBy (Some book) operator b stamp (Broker key (Import importing rows)) change reply
-      from (Some imported) at made_is = told_again (imported.key == importing) _ _ change reply made_is
+      from : (o : Option Imported) → book.imported ≡ o → import_rows (book_head book) b import_key rows o ≡ Makes change reply
+          → MadeBy (Some book) operator b stamp (Broker key (Import import_key rows)) change reply
+      from (Some imported) at made_is = told_again (imported.key == import_key) _ _ change reply made_is
       from None at made_is =
           let filled = if_makes (is_empty (book_head book)) _ _ change reply made_is in
           let empty = empty_lists book filled.0 in
-          RowsAre key importing rows book refl refl (if_makes (book.key == key) _ _ change reply is).0
+          RowsAre key import_key rows book refl refl (if_makes (book.key == key) _ _ change reply is).0
           (record { terms = empty.0; pledges = empty.1; imported = at }) (same_change _ change _ reply filled.1) (same_reply _ change _ reply filled.1)
 made_by (Some book) operator b stamp (Viewer key (seen.Pledge n)) change reply is =
     let passed = if_makes (book.key == key) _ _ change reply is in shown_makes stamp (pledge_from 1 book.pledges n) change reply passed.1

@@ -21,7 +21,7 @@ pub did_on : (book : BookValue) (operator b : ℕ) (stamp : Stamp) (caller : Cal
 did_on book operator b stamp (Operator key new) n command change reply asks is = absurd asks
 did_on book operator b stamp (Broker key (PutTerms new)) n command change reply asks is = absurd asks
 did_on book operator b stamp (Broker key (TakePledge opening)) n command change reply asks is = absurd asks
-did_on book operator b stamp (Broker key (Import importing rows)) n command change reply asks is = absurd asks
+did_on book operator b stamp (Broker key (Import import_key rows)) n command change reply asks is = absurd asks
 did_on book operator b stamp (Viewer key view) n command change reply asks is = absurd asks
 did_on book operator b stamp (Broker key (OnPledge m own)) n command change reply asks is =
     let passed = if_makes (book.key == key) _ _ change reply is in
@@ -39,7 +39,7 @@ told_to : (book : BookValue) (operator b : ℕ) (stamp : Stamp) (caller : Caller
 told_to book operator b stamp (Operator key new) n command p done asks passes at step = absurd asks
 told_to book operator b stamp (Broker key (PutTerms new)) n command p done asks passes at step = absurd asks
 told_to book operator b stamp (Broker key (TakePledge opening)) n command p done asks passes at step = absurd asks
-told_to book operator b stamp (Broker key (Import importing rows)) n command p done asks passes at step = absurd asks
+told_to book operator b stamp (Broker key (Import import_key rows)) n command p done asks passes at step = absurd asks
 told_to book operator b stamp (Viewer key view) n command p done asks passes at step = absurd asks
 told_to book operator b stamp (Broker key (OnPledge m own)) n command p done asks passes at step =
     let holds : book.key ≡ key = ap (λ (k : BookValue). k.key) (some_is book passes.0 passes.1) ∙ passes.2 in

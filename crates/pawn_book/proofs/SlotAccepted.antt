@@ -71,10 +71,10 @@ made_accepted slot before operator b stamp caller change reply (PledgeIs key ope
     subst (λ o. Accepts slot o stamp caller (Makes change reply)) (sym stands)
     (subst (λ (c : Change). Accepts slot (Some book) stamp caller (Makes c reply)) (sym makes) (accepts_put slot book b p.agreement.number p stamp caller reply
     None (pledge_past 1 book.pledges p.agreement.number (omega (arith, number))) (λ o e at. cc e)))
-made_accepted slot before operator b stamp caller change reply (RowsAre key importing rows book asks stands passes unfilled makes says) =
+made_accepted slot before operator b stamp caller change reply (RowsAre key import_key rows book asks stands passes unfilled makes says) =
     subst (λ o. Accepts slot o stamp caller (Makes change reply)) (sym stands)
     (subst (λ (c : Change). Accepts slot (Some book) stamp caller (Makes c reply)) (sym makes) (subst (λ (at : BookValue). Accepts slot (Some at) stamp caller
-    (Makes (ImportBook b importing rows) reply)) (sym (without_lists book unfilled.terms unfilled.pledges)) (accepted_all slot no_pledge 1 rows.pledges)))
+    (Makes (ImportBook b import_key rows) reply)) (sym (without_lists book unfilled.terms unfilled.pledges)) (accepted_all slot no_pledge 1 rows.pledges)))
 made_accepted slot before operator b stamp caller change reply (CommandIs book n command stands asks did) =
     subst (λ o. Accepts slot o stamp caller (Makes change reply)) (sym stands) (subst (λ (c : Change). Accepts slot (Some book) stamp caller (Makes c reply))
     (sym did.makes) (accepts_put slot book b n did.next stamp caller reply (Some did.old) did.stands (λ o same in_slot.

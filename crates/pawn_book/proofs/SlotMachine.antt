@@ -92,7 +92,7 @@ does_asked (Operator key new) n stamp command asks = absurd asks
 does_asked (Broker key (PutTerms new)) n stamp command asks = absurd asks
 does_asked (Broker key (TakePledge opening)) n stamp command asks = absurd asks
 does_asked (Broker key (OnPledge m own)) n stamp command asks = ap (λ (c : Command). Did n stamp c ∷ []) asks.1
-does_asked (Broker key (Import importing rows)) n stamp command asks = absurd asks
+does_asked (Broker key (Import import_key rows)) n stamp command asks = absurd asks
 does_asked (Viewer key view) n stamp command asks = absurd asks
 does_asked (Bearer (Present receipts)) n stamp command asks = absurd asks
 does_asked (Bearer (OnReceipt r own)) n stamp command asks = ap (λ (c : Command). Did n stamp c ∷ []) asks.1
@@ -113,9 +113,9 @@ made_follows slot before operator b stamp caller change reply (PledgeIs key open
     subst (λ o. Follows slot o stamp caller (Makes change reply)) (sym stands)
     (subst (λ (c : Change). Follows slot (Some book) stamp caller (Makes c reply)) (sym makes) (put_follows slot book b p.agreement.number p stamp caller reply
     None (pledge_past 1 book.pledges p.agreement.number (omega (arith, number))) low high (λ o e at. cc e)))
-made_follows slot before operator b stamp caller change reply (RowsAre key importing rows book asks stands passes unfilled makes says) =
+made_follows slot before operator b stamp caller change reply (RowsAre key import_key rows book asks stands passes unfilled makes says) =
     subst (λ o. Follows slot o stamp caller (Makes change reply)) (sym stands) (subst (λ (c : Change). Follows slot (Some book) stamp caller (Makes c reply))
-    (sym makes) (subst (λ (at : BookValue). Follows slot (Some at) stamp caller (Makes (ImportBook b importing rows) reply))
+    (sym makes) (subst (λ (at : BookValue). Follows slot (Some at) stamp caller (Makes (ImportBook b import_key rows) reply))
     (sym (without_lists book unfilled.terms unfilled.pledges)) (λ q. enter_book slot rows.pledges no_pledge q (λ n. refl))))
 made_follows slot before operator b stamp caller change reply (CommandIs book n command stands asks did) =
     let within = pledge_within 1 book.pledges n did.old did.stands in

@@ -49,7 +49,7 @@ spent_made before operator b stamp caller change reply r (PledgeIs key opening b
     let within = pledge_within 1 book.pledges r.number here.pledge here.stands in
     subst (λ o. IsSpentReceipt (changed_book o change) r) (sym stands) (subst (λ (c : Change). IsSpentReceipt (changed_book (Some book) c) r) (sym makes)
     (spent_put book b p.agreement.number p r low high (λ same. absurd (omega (arith, within, same, number))) here))
-spent_made before operator b stamp caller change reply r (RowsAre key importing rows book asks stands passes unfilled makes says) spent =
+spent_made before operator b stamp caller change reply r (RowsAre key import_key rows book asks stands passes unfilled makes says) spent =
     absurd_none (sym (ap (λ ps. pledge_from 1 ps r.number) unfilled.pledges) ∙ ap (λ o. pledge_in o r.number) (sym stands) ∙ spent.stands)
 spent_made before operator b stamp caller change reply r (CommandIs book n command stands asks did) spent =
     let within = pledge_within 1 book.pledges n did.old did.stands in

@@ -49,7 +49,7 @@ sound_made new key utf8 name capacity = record {
     few_terms = omega arith;
     few_pledges = omega arith;
   };
-  written = tt;
+  texts_and_words = tt;
 }
 
 -- a sound book that is filled with replayable rows is sound
@@ -62,7 +62,7 @@ sound_filled book key rows sound word written replayable = record {
   name = sound.name;
   capacity = sound.capacity;
   rows = replayable;
-  written = written;
+  texts_and_words = written;
 }
 
 pub sound_terms : (book : BookValue) (terms : Rates) → IsSoundBook book → IsChecked terms → length book.terms < most_terms
@@ -83,7 +83,7 @@ sound_terms book terms sound checked few = record {
     few_terms = omega (arith, few, length-append book.terms (terms ∷ []));
     few_pledges = sound.rows.few_pledges;
   };
-  written = sound.written;
+  texts_and_words = sound.texts_and_words;
 }
 
 pub numbered_put : (k : ℕ) (ps : List PledgeValue) (n : ℕ) (p : PledgeValue) → AreNumberedFrom k ps → p.agreement.number ≡ n → k ≤ n → n ≤ k + length ps
@@ -156,7 +156,7 @@ sound_next book p sound is_next reaches written =
         few_terms = sound.rows.few_terms;
         few_pledges = omega (arith, few, ap length pushed, length-append book.pledges (p ∷ []));
       };
-      written = each_put HasTextsAndWords 1 book.pledges p.agreement.number p sound.written written;
+      texts_and_words = each_put HasTextsAndWords 1 book.pledges p.agreement.number p sound.texts_and_words written;
     }
 
 pub each_at : (P : PledgeValue → Type 0) (k : ℕ) (ps : List PledgeValue) (n : ℕ) (p : PledgeValue) → Each P ps → pledge_from k ps n ≡ Some p → P p

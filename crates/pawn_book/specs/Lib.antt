@@ -11,7 +11,7 @@ pub mod Gathering
 pub mod Changes
 pub mod Keeping
 pub mod Plans
-pub mod Written
+pub mod TextsAndWords
 pub mod Rows
 pub mod Sound
 pub mod Laws

@@ -17,7 +17,7 @@ use Rattle.std.specs.Prelude.{◌≡◌, ℕ, List, [], ◌∷◌, true, Ok}
 -- the request opens no pledge and imports none
 abbrev pub BringsNone : Caller → Type 0
 BringsNone (Broker key (TakePledge opening)) = ⊥
-BringsNone (Broker key (Import importing rows)) = ⊥
+BringsNone (Broker key (Import import_key rows)) = ⊥
 BringsNone other = Unit {0}
 
 -- the request is neither a declaration nor a redemption

@@ -1,5 +1,5 @@
 -- Sound books and hosts.
-pub use Rattle.pawn_book.specs.Written.{IsWord, AreWords, HasTextsAndWords}
+pub use Rattle.pawn_book.specs.TextsAndWords.{IsWord, AreWords, HasTextsAndWords}
 use Rattle.pawn_book.specs.BookStep.{BookValue}
 use Rattle.pawn_book.specs.Common.{Each, IsNumber, IsText, IsUtf8}
 use Rattle.pawn_book.specs.HostStep.{Host, rows}
@@ -16,7 +16,7 @@ pub record IsSoundBook (book : BookValue) : Type 0 where
   pub name : IsText most_name_bytes book.name
   pub capacity : IsCapacity book.capacity
   pub rows : AreReplayable book.terms book.pledges
-  pub written : Each HasTextsAndWords book.pledges
+  pub texts_and_words : Each HasTextsAndWords book.pledges
 
 -- a sound book under a number that a book may have
 abbrev pub IsSoundAt : ℕ → BookValue → Type 0

@@ -23,27 +23,27 @@ abbrev pub no_book_rows : BookRows
 no_book_rows = record { terms = []; pledges = [] }
 
 -- the outcome of the import of rows under a key, by the broker's key 5
-abbrev pub importing : ℕ → BookRows → Option BookValue → Outcome
-importing key rows book = book_step book 9 7 (at 1) (Broker 5 (Import key rows))
+abbrev pub import_outcome : ℕ → BookRows → Option BookValue → Outcome
+import_outcome key rows book = book_step book 9 7 (at 1) (Broker 5 (Import key rows))
 
 -- the book after the import of the ring under key 6
 abbrev pub book_filled : Option BookValue
-book_filled = book_after empty_book (importing 6 ring_rows empty_book)
+book_filled = book_after empty_book (import_outcome 6 ring_rows empty_book)
 
 -- the first import, its repeats, and the imports that are refused
 pub record WorkedImports : Type 0 where
   -- the rows become those of the book, and their key becomes that of its import
-  pub first : importing 6 ring_rows empty_book ≡ Makes (ImportBook 7 6 ring_rows) (BookFilled 1)
+  pub first : import_outcome 6 ring_rows empty_book ≡ Makes (ImportBook 7 6 ring_rows) (BookFilled 1)
   pub fills : book_filled ≡ Some (record
       { key = 5; name = codes "High Street"; capacity = 1; terms = free ∷ []; pledges = ring 10000 ∷ []; imported = Some (record { key = 6; pledges = 1 }) })
   -- a repeat under its key gets the answer of the first time, whatever its rows
-  pub again : importing 6 ring_rows book_filled ≡ Says (Replied (BookFilled 1))
-  pub again_without : importing 6 no_book_rows book_filled ≡ Says (Replied (BookFilled 1))
+  pub again : import_outcome 6 ring_rows book_filled ≡ Says (Replied (BookFilled 1))
+  pub again_without : import_outcome 6 no_book_rows book_filled ≡ Says (Replied (BookFilled 1))
   -- an import under another key, or into a book with terms, is refused
-  pub another : importing 8 ring_rows book_filled ≡ Refuses BookNotEmpty
-  pub with_terms : importing 6 ring_rows one_book ≡ Refuses BookNotEmpty
+  pub another : import_outcome 8 ring_rows book_filled ≡ Refuses BookNotEmpty
+  pub with_terms : import_outcome 6 ring_rows one_book ≡ Refuses BookNotEmpty
   -- an import without rows also fills the book, and its key is kept
-  pub nothing : importing 6 no_book_rows empty_book ≡ Makes (ImportBook 7 6 no_book_rows) (BookFilled 0)
-  pub after_nothing : importing 8 ring_rows (book_after empty_book (importing 6 no_book_rows empty_book)) ≡ Refuses BookNotEmpty
+  pub nothing : import_outcome 6 no_book_rows empty_book ≡ Makes (ImportBook 7 6 no_book_rows) (BookFilled 0)
+  pub after_nothing : import_outcome 8 ring_rows (book_after empty_book (import_outcome 6 no_book_rows empty_book)) ≡ Refuses BookNotEmpty
   -- the key of the book is checked first
   pub other_broker : book_step book_filled 9 7 (at 1) (Broker 6 (Import 6 ring_rows)) ≡ Refuses NoSuchBook

@@ -1,6 +1,6 @@
 //! The rows of a book.
 ghost use Rattle.pawn_base.specs.Lists.{Each};
-ghost use Rattle.pawn_book.specs.Written.{HasTextsAndWords};
+ghost use Rattle.pawn_book.specs.TextsAndWords.{HasTextsAndWords};
 ghost use Rattle.pawn_pledge.specs.Replayable.{IsReachable};
 ghost use Rattle.std.specs.Prelude.{◌≡◌, IfNone, IfOk, IfSome};
 
@@ -17,7 +17,7 @@ pub struct PledgeRows {
 
 impl Model for PledgeRows {
     ghost use Rattle.pawn_base.specs.Lists.{Each};
-    ghost use Rattle.pawn_book.specs.Written.{HasTextsAndWords};
+    ghost use Rattle.pawn_book.specs.TextsAndWords.{HasTextsAndWords};
     ghost use Rattle.pawn_pledge.specs.Pledge.{PledgeValue};
     ghost use Rattle.std.specs.Prelude.{List};
 
@@ -40,7 +40,7 @@ impl PledgeRows {
     /// The records as a slice.
     pub fn as_slice(&self) -> &[Parts]
         ensures value { result.now ≡ self.now }
-        ensures written { Each HasTextsAndWords self.now }
+        ensures texts_and_words { Each HasTextsAndWords self.now }
     {
         self.items.as_slice()
     }
@@ -69,19 +69,19 @@ fn pledges_of(records: Vec<Parts>) -> Result<Option<Vec<Pledge>>, AllocError>
     Ok(Some(pledges))
 }
 
-/// Gives the proof of `know_written` for each record.
+/// Gives the proof of `know_texts_and_words` for each record.
 fn know_records(records: &[Parts])
-    ensures written { Each HasTextsAndWords records.now }
+    ensures texts_and_words { Each HasTextsAndWords records.now }
 {
     for parts in records {
-        know_written(parts);
+        know_texts_and_words(parts);
     }
 }
 
 /// Reads the texts, the secrets and the day of a record, which gives a proof that the texts are UTF-8, that the secrets
 /// have 128 bits, and that the day is in range.
-fn know_written(parts: &Parts)
-    ensures written { HasTextsAndWords parts.now }
+fn know_texts_and_words(parts: &Parts)
+    ensures texts_and_words { HasTextsAndWords parts.now }
 {
     let _ = parts.agreement.opening.reference.as_str();
     let _ = parts.agreement.opening.article.as_str();

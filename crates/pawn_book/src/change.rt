@@ -48,7 +48,7 @@ pub enum Change {
     /// The rows that fill a book without terms and pledges, with the key of their import.
     ImportBook {
         book: Number,
-        key: Secret,
+        import_key: Secret,
         rows: ReplayableRows,
     },
 }

@@ -15,8 +15,8 @@ use crate::keep::Keep;
 use crate::refusal::Refusal;
 use pawn_pledge::{Brief, Number, Pledge, Receipt, Secret, Stamp};
 
-/// The head of a book, for the holder of its key. Refused as `NoSuchBook` if there is no such book, or the key is not
-/// the book's.
+/// The head of a book, for the broker, who has its key. Refused as `NoSuchBook` if there is no such book, or the key is
+/// not the book's.
 pub fn gate<K: Keep>(keep: &mut K, book: Number, key: Secret) -> Result<BookHead, Refusal>
     ensures reads { Reads K.keeping keep.old keep.new (λ h. Gates (get h.books book) key result) }
     ensures steady { IsQuiet K.keeping keep.old result }

@@ -61,7 +61,7 @@ fn fill_book(book: Number, key: Secret, rows: &ReplayableRows) -> Result<Planned
     ensures memory { IfErr result (λ why. why ≡ Refusal.Memory) }
     ensures key { IsWord key }
     ensures replayable { AreReplayable rows.now.terms rows.now.pledges }
-    ensures written { Each HasTextsAndWords rows.now.pledges }
+    ensures texts_and_words { Each HasTextsAndWords rows.now.pledges }
 {
     // Reading the key gives a proof that it has 128 bits.
     let _word = key.word();
@@ -71,7 +71,11 @@ fn fill_book(book: Number, key: Secret, rows: &ReplayableRows) -> Result<Planned
         return Err(Refusal::Memory);
     };
     Ok(Planned {
-        change: Some(Change::ImportBook { book, key, rows }),
+        change: Some(Change::ImportBook {
+            book,
+            import_key: key,
+            rows,
+        }),
         reply,
     })
 }

@@ -52,7 +52,9 @@ pub fn plan<K: Keep>(
                     let command = command.command();
                     plan_number(keep, request.book, &head, *number, stamp, &command)
                 }
-                BrokerRequest::Import { key, rows } => plan_import(request.book, &head, *key, rows),
+                BrokerRequest::Import { import_key, rows } => {
+                    plan_import(request.book, &head, *import_key, rows)
+                }
             }
         }
         Caller::Bearer(BearerRequest::OnPledge { receipt, command }) => {

@@ -1,7 +1,7 @@
 //! `ReplayableRows`, rows that can fill a book.
 ghost use Rattle.pawn_base.specs.Lists.{Each};
 ghost use Rattle.pawn_book.specs.Rows.{AreReplayable};
-ghost use Rattle.pawn_book.specs.Written.{HasTextsAndWords};
+ghost use Rattle.pawn_book.specs.TextsAndWords.{HasTextsAndWords};
 ghost use Rattle.std.specs.Prelude.{◌≡◌, IfNone, IfOk, IfSome};
 
 use crate::book_rows::BookRows;
@@ -21,7 +21,7 @@ pub struct ReplayableRows {
 impl Model for ReplayableRows {
     ghost use Rattle.pawn_base.specs.Lists.{Each};
     ghost use Rattle.pawn_book.specs.Rows.{AreReplayable};
-    ghost use Rattle.pawn_book.specs.Written.{HasTextsAndWords};
+    ghost use Rattle.pawn_book.specs.TextsAndWords.{HasTextsAndWords};
     ghost use Rattle.pawn_book.specs.declared.book_rows.BookRows.{BookRows};
 
     ghost Value = { BookRows };
@@ -65,7 +65,7 @@ impl ReplayableRows {
     /// a field, which makes the invariant known.
     pub fn know_replayable(&self)
         ensures replayable { AreReplayable self.now.terms self.now.pledges }
-        ensures written { Each HasTextsAndWords self.now.pledges }
+        ensures texts_and_words { Each HasTextsAndWords self.now.pledges }
     {
         let _ = &self.terms;
     }

@@ -29,7 +29,7 @@ fn are_replayable(terms: &[Rates], pledges: &[Parts]) -> bool
 
 /// Whether rows are replayable if each of their pledges is reachable.
 pub(crate) fn fit_together(terms: &[Rates], pledges: &[Parts]) -> bool
-    ensures joined { IsTrue result → Each IsReachable pledges.now → AreReplayable terms.now pledges.now }
+    ensures fits { IsTrue result → Each IsReachable pledges.now → AreReplayable terms.now pledges.now }
     ensures needed { AreReplayable terms.now pledges.now → IsTrue result }
 {
     are_within_counts(terms, pledges)

@@ -103,7 +103,7 @@ pub enum BrokerRequest {
     },
     /// Fills the empty book with these rows. The key identifies the import, so that a repeat is recognised.
     Import {
-        key: Secret,
+        import_key: Secret,
         rows: ReplayableRows,
     },
 }

@@ -24,21 +24,21 @@ pub enum SheetItem {
 /// A part of a day's sheet: the confirmed bookings of a window, the bookings that are asked for, or the pledges whose
 /// period ends.
 #[derive(Clone, Copy)]
-pub enum Part {
+pub enum SheetPart {
     Confirmed { window: u64 },
     Asked,
     Ends,
 }
 
-impl Part {
+impl SheetPart {
     /// The first item of the part, with the number of items that follow it.
     pub fn heading(self, count: u64) -> SheetItem
         ensures value { result ≡ part_head self count }
     {
         match self {
-            Part::Confirmed { window } => SheetItem::Window { window, count },
-            Part::Asked => SheetItem::AskedHead(count),
-            Part::Ends => SheetItem::EndsHead(count),
+            SheetPart::Confirmed { window } => SheetItem::Window { window, count },
+            SheetPart::Asked => SheetItem::AskedHead(count),
+            SheetPart::Ends => SheetItem::EndsHead(count),
         }
     }
 }

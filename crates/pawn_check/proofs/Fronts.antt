@@ -161,7 +161,7 @@ front_more k i version rows next more p less at fits rise is few front =
       references = references_push (take i k.pledges) p front.references none;
       under = Each-push (IsUnder k.terms) (take i k.pledges) p front.under fits.under;
       versions = falls_push 0 (take i k.pledges) p front.versions (omega (arith, front.last, rise, is));
-      written = Each-push HasTextsAndWords (take i k.pledges) p front.written fits.written;
+      texts_and_words = Each-push HasTextsAndWords (take i k.pledges) p front.texts_and_words fits.texts_and_words;
       last = is ∙ sym (last_push 0 (take i k.pledges) p);
       counted = let sums = sum_by_push pledge_row_count (take i k.pledges) p in omega (arith, sums, few, front.counted);
     })
@@ -208,7 +208,7 @@ sound_fits k n p sound is =
       under = each_at (IsUnder k.terms) 1 k.pledges n p sound.rows.under is;
       reference = ap (λ (o : Option PledgeValue). option_map (λ (q : PledgeValue). q.agreement.number) o) (first_is 1 k.pledges n p sound.rows.references is)
           ∙ ap (λ m. Some m) number;
-      written = each_at HasTextsAndWords 1 k.pledges n p sound.written is;
+      texts_and_words = each_at HasTextsAndWords 1 k.pledges n p sound.texts_and_words is;
     }
 
 -- ---- what was found is passed on
@@ -277,7 +277,7 @@ module _ (k : BookValue) (head : BookHead) (is : head ≡ book_head k) (rows : �
       few_terms = subst (λ (x : BookHead). x.terms ≤ most_terms) is few_terms;
       few_pledges = subst (λ (x : BookHead). x.pledges ≤ most_pledges) is few_pledges;
     };
-    written = front.1.written;
+    texts_and_words = front.1.texts_and_words;
   }
 
   pub has_counts : ((version : ℕ) × IsFront k k.pledges version rows) → AreOfBook k (record { pledges = head.pledges; rows = 1 + head.terms + rows })

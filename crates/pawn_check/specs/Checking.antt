@@ -69,7 +69,7 @@ pub record FitsAt (book : BookValue) (n : ℕ) (p : PledgeValue) : Type 0 where
   pub reachable : IsReachable p
   pub under : IsUnder book.terms p
   pub reference : number_of (Some book) p.agreement.opening.reference ≡ Some n
-  pub written : HasTextsAndWords p
+  pub texts_and_words : HasTextsAndWords p
 
 -- The first pledges of a book are as in a sound book; the last of them has this version of terms (0 if there are none),
 -- and together they have this many counted rows.
@@ -79,6 +79,6 @@ pub record IsFront (book : BookValue) (pledges : List PledgeValue) (version rows
   pub references : AreDistinct (references_of pledges)
   pub under : Each (IsUnder book.terms) pledges
   pub versions : DoNotFall version_of 0 pledges
-  pub written : Each HasTextsAndWords pledges
+  pub texts_and_words : Each HasTextsAndWords pledges
   pub last : version ≡ last_by version_of 0 pledges
   pub counted : rows ≡ sum_by pledge_row_count pledges

@@ -51,8 +51,8 @@ fn read_pledge<K: Keep>(keep: &mut K, book: Number, number: Number) -> Result<Pl
 
 /// Proves that the texts, the secrets and the day of a pledge are within their ranges. The body only reads them, which
 /// makes the invariants of their types known.
-fn know_written(pledge: &Pledge)
-    ensures written { HasTextsAndWords pledge.now }
+fn know_texts_and_words(pledge: &Pledge)
+    ensures texts_and_words { HasTextsAndWords pledge.now }
 {
     let agreement = pledge.agreement();
     let _ = agreement.opening.reference.as_str();
@@ -108,7 +108,7 @@ fn next_step<K: Keep>(
     ensures quiet { IsQuietCheck K.keeping keep.old result }
 {
     let pledge = read_pledge(keep, book, number)?;
-    know_written(&pledge);
+    know_texts_and_words(&pledge);
     let agreement = pledge.agreement();
     let next = agreement.version;
     if agreement.number != number || next < version {

@@ -10,8 +10,8 @@ use Rattle.pawn_csv.specs.Common.{AreRecords, BookRows, Each, PledgeValue, Rates
 use Rattle.pawn_csv.specs.Common.{most_pledges, most_terms, strip_bom}
 use Rattle.pawn_csv.specs.Finishing.{IsFinishedAs, raw_of}
 use Rattle.pawn_csv.specs.Layout.{raw_rows}
-use Rattle.pawn_csv.specs.Order.{Begun, hand, is_whole, may_end, on_hand, on_second, place, place_booking, place_entry}
-use Rattle.pawn_csv.specs.Order.{place_extension, place_pledge, place_secret, place_terms, pledges_begun, put_hand}
+use Rattle.pawn_csv.specs.Order.{Begun, hand, is_whole, may_end, on_hand, on_second, accept, accept_booking, accept_entry}
+use Rattle.pawn_csv.specs.Order.{accept_extension, accept_pledge, accept_secret, accept_terms, pledges_begun, put_hand}
 use Rattle.pawn_csv.specs.Order.{raw_pledge, run, then_run}
 use Rattle.pawn_csv.specs.Reading.{AreTaken, FitsVersion, IsReadAs, IsTextOf}
 use Rattle.pawn_csv.specs.Rows.{FitsColumns, Knows, header, pledge_csv_rows, row_fields, book_csv_rows, terms_rows}
@@ -85,18 +85,18 @@ on_hand_grows b c number (Some p) f row at h step plain =
       | Err e ↦ λ is put. cc
     ] refl guard.1
 
-secret_keeps : (p q : RawPledge) (at : ℕ) (x : _) → place_secret p at x ≡ Ok q → q.extensions ≡ p.extensions
+secret_keeps : (p q : RawPledge) (at : ℕ) (x : _) → accept_secret p at x ≡ Ok q → q.extensions ≡ p.extensions
 secret_keeps p q at x h = let g = guard_ok _ (record p { secrets = p.secrets ++ x ∷ [] }) q Cause.Order (guard_err _ _ q Cause.TooMany h) in
     sym (ap (λ (r : RawPledge). r.extensions) g.1)
 
-entry_keeps : (p q : RawPledge) (x : _) → place_entry p x ≡ Ok q → q.extensions ≡ p.extensions
+entry_keeps : (p q : RawPledge) (x : _) → accept_entry p x ≡ Ok q → q.extensions ≡ p.extensions
 entry_keeps p q x h = let g = guard_ok _ (record p { entries = p.entries ++ x ∷ [] }) q Cause.Order (guard_err _ _ q Cause.TooMany h) in
     sym (ap (λ (r : RawPledge). r.extensions) g.1)
 
-booking_keeps : (p q : RawPledge) (x : _) → place_booking p x ≡ Ok q → q.extensions ≡ p.extensions
+booking_keeps : (p q : RawPledge) (x : _) → accept_booking p x ≡ Ok q → q.extensions ≡ p.extensions
 booking_keeps p q x h = let g = guard_ok _ (record p { booking = Some x }) q Cause.Order h in sym (ap (λ (r : RawPledge). r.extensions) g.1)
 
-terms_grows : (b c : Begun) (v : ℕ) (x : Rates) → place_terms b v x ≡ Ok c → IsPlain (Some b) → Grows (Some b) (Row.Terms v x) c
+terms_grows : (b c : Begun) (v : ℕ) (x : Rates) → accept_terms b v x ≡ Ok c → IsPlain (Some b) → Grows (Some b) (Row.Terms v x) c
 terms_grows b c v x h plain =
     let new : Begun = record b { terms = b.terms ++ x ∷ [] } in
     let guard = guard_ok ((v == length b.terms + 1) && nat_le v b.terms_due && (length (pledges_begun b) == 0)) new c Cause.Order h in
@@ -114,7 +114,7 @@ terms_grows b c v x h plain =
     ∙ ap (λ (ps : List RawPledge). (head ∷ (terms_rows 1 b.terms ++ flat_map raw_rows ps)) ++ Row.Terms v x ∷ []) (sym none) in
     subst (λ (d : Begun). Grows (Some b) (Row.Terms v x) d) guard.1 (rows, plain)
 
-pledge_grows : (b c : Begun) (x : PledgeColumns) → place_pledge b x ≡ Ok c → IsPlain (Some b) → Grows (Some b) (Row.Pledge x) c
+pledge_grows : (b c : Begun) (x : PledgeColumns) → accept_pledge b x ≡ Ok c → IsPlain (Some b) → Grows (Some b) (Row.Pledge x) c
 pledge_grows b c x h plain =
     let new : Begun = record b { pledges = pledges_begun b; at_hand = Some (raw_pledge x) } in
     let guard = guard_ok _ new c Cause.Order h in
@@ -132,7 +132,7 @@ pub not_one : (v : Version) → v ≡ Version.Two → v ≡ Version.One → ⊥
 not_one v a b = let e = sym a ∙ b in cc
 
 -- a row that is accepted can be seen at the end
-place_grows : (s : Option Begun) (r : Row) (c : Begun) → place s r ≡ Ok c → IsPlain s → Grows s r c
+place_grows : (s : Option Begun) (r : Row) (c : Begun) → accept s r ≡ Ok c → IsPlain s → Grows s r c
 place_grows None (Row.Book v t p) c h plain =
     subst (λ (d : Begun). Grows None (Row.Book v t p) d) (ok_same _ c (guard_err (nat_lt most_terms t || nat_lt most_pledges p) _ c Cause.TooMany h))
     (refl, λ one. tt)
@@ -140,21 +140,21 @@ place_grows None r c h plain = cc
 place_grows (Some b) (Row.Book v t p) c h plain = let e = guard_err (nat_lt most_terms t || nat_lt most_pledges p) _ c Cause.TooMany h in cc
 place_grows (Some b) (Row.Terms v x) c h plain = terms_grows b c v x h plain
 place_grows (Some b) (Row.Pledge x) c h plain = pledge_grows b c x h plain
-place_grows (Some b) (Row.Secret n at x) c h plain = on_hand_grows b c n b.at_hand (λ p. place_secret p at x) (Row.Secret n at x) refl h
+place_grows (Some b) (Row.Secret n at x) c h plain = on_hand_grows b c n b.at_hand (λ p. accept_secret p at x) (Row.Secret n at x) refl h
     (λ p q same is. (subst (λ (m : ℕ). Shows p q (Row.Secret m at x)) same (secret_shown p q at x is), λ one none. secret_keeps p q at x is ∙ none)) plain
-place_grows (Some b) (Row.Entry n x) c h plain = on_hand_grows b c n b.at_hand (λ p. place_entry p x) (Row.Entry n x) refl h
+place_grows (Some b) (Row.Entry n x) c h plain = on_hand_grows b c n b.at_hand (λ p. accept_entry p x) (Row.Entry n x) refl h
     (λ p q same is. (subst (λ (m : ℕ). Shows p q (Row.Entry m x)) same (entry_shown p q x is), λ one none. entry_keeps p q x is ∙ none)) plain
 place_grows (Some b) (Row.Extension n at x) c h plain =
     let s = second_only b.version _ c h in
-    on_hand_grows b c n b.at_hand (λ p. place_extension p at x) (Row.Extension n at x) refl s.1 (λ p q same is.
+    on_hand_grows b c n b.at_hand (λ p. accept_extension p at x) (Row.Extension n at x) refl s.1 (λ p q same is.
     (subst (λ (m : ℕ). Shows p q (Row.Extension m at x)) same (extension_shown p q at x is), λ one none. absurd (not_one b.version s.0 one))) plain
-place_grows (Some b) (Row.Booking n x) c h plain = on_hand_grows b c n b.at_hand (λ p. place_booking p x) (Row.Booking n x) refl h
+place_grows (Some b) (Row.Booking n x) c h plain = on_hand_grows b c n b.at_hand (λ p. accept_booking p x) (Row.Booking n x) refl h
     (λ p q same is. (subst (λ (m : ℕ). Shows p q (Row.Booking m x)) same (booking_shown p q x is), λ one none. booking_keeps p q x is ∙ none)) plain
 
 pub run_grows : (rows : List Row) (s t : Option Begun) → run s rows ≡ Ok t → IsPlain s → (shown t ≡ shown s ++ rows) × IsPlain t
 run_grows [] s t h plain = subst (λ (v : Option Begun). (shown v ≡ shown s ++ []) × IsPlain v) (ok_same s t h) (sym (append-nil (shown s)), plain)
 run_grows (r ∷ rows) s t h plain =
-    elim (place s r) as (λ v. place s r ≡ v → then_run v (λ m. run m rows) ≡ Ok t → (shown t ≡ shown s ++ r ∷ rows) × IsPlain t) [
+    elim (accept s r) as (λ v. accept s r ≡ v → then_run v (λ m. run m rows) ≡ Ok t → (shown t ≡ shown s ++ r ∷ rows) × IsPlain t) [
       | Ok b ↦ λ at rest.
           let g = place_grows s r b at plain in
           let on = run_grows rows (Some b) t rest g.1 in

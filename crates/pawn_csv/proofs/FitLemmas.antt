@@ -170,7 +170,7 @@ writable_books_fit v k h knows =
       (
         (omega (arith, r.few_terms), omega (arith, r.few_pledges)),
         each_both (terms_rows 1 k.terms) (flat_map pledge_csv_rows k.pledges) (fit_terms 1 k.terms r.checked (omega (arith, r.few_terms)))
-            (fit_pledges k.terms k.pledges (omega (arith, r.few_terms)) r.under r.reachable h.written),
+            (fit_pledges k.terms k.pledges (omega (arith, r.few_terms)) r.under r.reachable h.texts_and_words),
       ),
     )
 
@@ -180,4 +180,4 @@ texts_are_read k h = held_texts_are_read k (writable_books_fit Version.Two k h t
 pub texts_of_hosts_are_read : TextsOfHostsAreRead
 texts_of_hosts_are_read h b book sound at =
     let is = (sound.books b book at).1 in
-    texts_are_read (record { terms = book.terms; pledges = book.pledges }) (record { replayable = is.rows; written = is.written })
+    texts_are_read (record { terms = book.terms; pledges = book.pledges }) (record { replayable = is.rows; texts_and_words = is.texts_and_words })

@@ -11,8 +11,8 @@ use Rattle.pawn_csv.specs.Finishing.{IsBegunOf, raw_of}
 use Rattle.pawn_csv.specs.Layout.{AreLaidFrom, IsWithin, NotReplayableIsOfNoBook, RefusedAreNoFront, TakenAreLaidOut}
 use Rattle.pawn_csv.specs.Layout.{TooManyIsAboveALimit, laid_rows, raw_rows}
 use Rattle.pawn_csv.specs.Order.{Begun, hand, has_secret, in_order, is_nil, is_none, is_whole, may_end, on_hand}
-use Rattle.pawn_csv.specs.Order.{on_second, place, place_book, place_booking, place_entry, place_extension, place_first}
-use Rattle.pawn_csv.specs.Order.{place_pledge, place_secret, pledges_begun, put_hand, raw_pledge, run, then_run}
+use Rattle.pawn_csv.specs.Order.{on_second, accept, accept_book, accept_booking, accept_entry, accept_extension, accept_first}
+use Rattle.pawn_csv.specs.Order.{accept_pledge, accept_secret, pledges_begun, put_hand, raw_pledge, run, then_run}
 use Rattle.pawn_csv.specs.Order.{unless_full}
 use Rattle.pawn_csv.specs.Rows.{Knows, terms_rows}
 use Rattle.pawn_csv.specs.Types.{Cause, PledgeColumns, RawPledge, Row, Version}
@@ -57,7 +57,7 @@ not_full count most answer y h = go (nat_le most count) refl h where
 
 -- ---- what each row keeps
 
-secret_within : (v : Version) (p q : RawPledge) (at : ℕ) (x : Issued) → place_secret p at x ≡ Ok q → IsWithin v p → (q.columns ≡ p.columns) × IsWithin v q
+secret_within : (v : Version) (p q : RawPledge) (at : ℕ) (x : Issued) → accept_secret p at x ≡ Ok q → IsWithin v p → (q.columns ≡ p.columns) × IsWithin v q
 secret_within v p q at x h within =
     let few = not_full (length p.secrets) most_secrets _ q h in
     let new : RawPledge = record p { secrets = p.secrets ++ x ∷ [] } in
@@ -73,7 +73,7 @@ secret_within v p q at x h within =
       },
     )
 
-entry_within : (v : Version) (p q : RawPledge) (x : Entry) → place_entry p x ≡ Ok q → IsWithin v p → (q.columns ≡ p.columns) × IsWithin v q
+entry_within : (v : Version) (p q : RawPledge) (x : Entry) → accept_entry p x ≡ Ok q → IsWithin v p → (q.columns ≡ p.columns) × IsWithin v q
 entry_within v p q x h within =
     let few = not_full (length p.entries) most_entries _ q h in
     let new : RawPledge = record p { entries = p.entries ++ x ∷ [] } in
@@ -94,7 +94,7 @@ entry_within v p q x h within =
       },
     )
 
-extension_within : (p q : RawPledge) (at : ℕ) (x : Extension) → place_extension p at x ≡ Ok q → IsWithin Version.Two p
+extension_within : (p q : RawPledge) (at : ℕ) (x : Extension) → accept_extension p at x ≡ Ok q → IsWithin Version.Two p
     → (q.columns ≡ p.columns) × IsWithin Version.Two q
 extension_within p q at x h within =
     let few = not_full (length p.extensions) most_extensions _ q h in
@@ -111,7 +111,7 @@ extension_within p q at x h within =
       },
     )
 
-booking_within : (v : Version) (p q : RawPledge) (x : Booking) → place_booking p x ≡ Ok q → IsWithin v p → (q.columns ≡ p.columns) × IsWithin v q
+booking_within : (v : Version) (p q : RawPledge) (x : Booking) → accept_booking p x ≡ Ok q → IsWithin v p → (q.columns ≡ p.columns) × IsWithin v q
 booking_within v p q x h within =
     let g = guard_ok _ (record p { booking = Some x }) q Cause.Order h in
     subst (λ (r : RawPledge). (r.columns ≡ p.columns) × IsWithin v r) g.1
@@ -136,7 +136,7 @@ hand_kept b c number (Some p) f at h keeps laid =
       | Err e ↦ λ is put. cc
     ] refl guard.1
 
-pledge_kept : (b c : Begun) (x : PledgeColumns) → place_pledge b x ≡ Ok c → IsLaidSoFar b → IsLaidSoFar c
+pledge_kept : (b c : Begun) (x : PledgeColumns) → accept_pledge b x ≡ Ok c → IsLaidSoFar b → IsLaidSoFar c
 pledge_kept b c x h laid =
     let new : Begun = record b { pledges = pledges_begun b; at_hand = Some (raw_pledge x) } in
     let g = guard_ok
@@ -160,7 +160,7 @@ abbrev IsLaid : Option Begun → Type 0
 IsLaid None = Unit {0}
 IsLaid (Some b) = IsLaidSoFar b
 
-place_kept : (s : Option Begun) (r : Row) (c : Begun) → place s r ≡ Ok c → IsLaid s → IsLaidSoFar c
+place_kept : (s : Option Begun) (r : Row) (c : Begun) → accept s r ≡ Ok c → IsLaid s → IsLaidSoFar c
 place_kept None (Row.Book v t p) c h laid = go (nat_lt most_terms t || nat_lt most_pledges p) refl h where
   new : Begun
   new = record { version = v; terms_due = t; pledges_due = p; terms = []; pledges = []; at_hand = None }
@@ -176,18 +176,19 @@ place_kept (Some b) (Row.Terms v x) c h laid =
     subst IsLaidSoFar g.1 (record { few_terms = laid.few_terms; few_pledges = laid.few_pledges; pledges = laid.pledges; at_hand = laid.at_hand })
 place_kept (Some b) (Row.Pledge x) c h laid = pledge_kept b c x h laid
 place_kept (Some b) (Row.Secret n at x) c h laid =
-    hand_kept b c n b.at_hand (λ p. place_secret p at x) refl h (λ p q is. secret_within b.version p q at x is) laid
-place_kept (Some b) (Row.Entry n x) c h laid = hand_kept b c n b.at_hand (λ p. place_entry p x) refl h (λ p q is. entry_within b.version p q x is) laid
+    hand_kept b c n b.at_hand (λ p. accept_secret p at x) refl h (λ p q is. secret_within b.version p q at x is) laid
+place_kept (Some b) (Row.Entry n x) c h laid = hand_kept b c n b.at_hand (λ p. accept_entry p x) refl h (λ p q is. entry_within b.version p q x is) laid
 place_kept (Some b) (Row.Extension n at x) c h laid =
     let s = second_only b.version _ c h in
-    hand_kept b c n b.at_hand (λ p. place_extension p at x) refl s.1 (λ p q is within. subst (λ (v : Version). (q.columns ≡ p.columns) × IsWithin v q) (sym s.0)
+    hand_kept b c n b.at_hand (λ p. accept_extension p at x) refl s.1 (λ p q is within. subst (λ (v : Version).
+    (q.columns ≡ p.columns) × IsWithin v q) (sym s.0)
     (extension_within p q at x is (subst (λ (v : Version). IsWithin v p) s.0 within))) laid
-place_kept (Some b) (Row.Booking n x) c h laid = hand_kept b c n b.at_hand (λ p. place_booking p x) refl h (λ p q is. booking_within b.version p q x is) laid
+place_kept (Some b) (Row.Booking n x) c h laid = hand_kept b c n b.at_hand (λ p. accept_booking p x) refl h (λ p q is. booking_within b.version p q x is) laid
 
 run_kept : (rows : List Row) (s t : Option Begun) → run s rows ≡ Ok t → IsLaid s → IsLaid t
 run_kept [] s t h laid = subst IsLaid (ok_same s t h) laid
 run_kept (r ∷ rows) s t h laid =
-    elim (place s r) as (λ v. place s r ≡ v → then_run v (λ m. run m rows) ≡ Ok t → IsLaid t) [
+    elim (accept s r) as (λ v. accept s r ≡ v → then_run v (λ m. run m rows) ≡ Ok t → IsLaid t) [
       | Ok b ↦ λ at rest. run_kept rows (Some b) t rest (place_kept s r b at laid)
       | Err e ↦ λ at rest. cc
     ] refl h
@@ -214,7 +215,7 @@ taken_are_laid_out rows b ran whole =
 still_refused : (rows more : List Row) (s : Option Begun) (c : Cause) → run s rows ≡ Err c → run s (rows ++ more) ≡ Err c
 still_refused [] more s c h = cc
 still_refused (r ∷ rows) more s c h =
-    elim (place s r) as (λ v. then_run v (λ m. run m rows) ≡ Err c → then_run v (λ m. run m (rows ++ more)) ≡ Err c) [
+    elim (accept s r) as (λ v. then_run v (λ m. run m rows) ≡ Err c → then_run v (λ m. run m (rows ++ more)) ≡ Err c) [
       | Ok b ↦ λ on. still_refused rows more (Some b) c on
       | Err e ↦ λ on. on
     ] h
@@ -249,14 +250,14 @@ second_many : (v : Version) (x : Result Begun Cause) → on_second v x ≡ Err C
 second_many Version.One x h = cc
 second_many Version.Two x h = h
 
-book_many : (s : Option Begun) (v : Version) (t p : ℕ) → place_book s v t p ≡ Err Cause.TooMany → (most_terms < t) ⊎ (most_pledges < p)
+book_many : (s : Option Begun) (v : Version) (t p : ℕ) → accept_book s v t p ≡ Err Cause.TooMany → (most_terms < t) ⊎ (most_pledges < p)
 book_many s v t p h = go (nat_lt most_terms t) (nat_lt most_pledges p) refl refl h where
-  go : (a b : Bool) → nat_lt most_terms t ≡ a → nat_lt most_pledges p ≡ b → cond (a || b) (Err Cause.TooMany) (place_first s v t p) ≡ Err Cause.TooMany
+  go : (a b : Bool) → nat_lt most_terms t ≡ a → nat_lt most_pledges p ≡ b → cond (a || b) (Err Cause.TooMany) (accept_first s v t p) ≡ Err Cause.TooMany
       → (most_terms < t) ⊎ (most_pledges < p)
   go true b is at h = inl (grind (arith, nat_tests, is))
   go false true is at h = inr (grind (arith, nat_tests, at))
   go false false is at h = absurd (first s h) where
-    first : (o : Option Begun) → place_first o v t p ≡ Err Cause.TooMany → ⊥
+    first : (o : Option Begun) → accept_first o v t p ≡ Err Cause.TooMany → ⊥
     first None h = cc
     first (Some b) h = cc
 
@@ -267,16 +268,16 @@ too_many_is_above_a_limit (Some b) (Row.Book v t p) h = book_many (Some b) v t p
 too_many_is_above_a_limit (Some b) (Row.Terms v x) h = in_order_not_many _ _ h
 too_many_is_above_a_limit (Some b) (Row.Pledge x) h = in_order_not_many _ _ h
 too_many_is_above_a_limit (Some b) (Row.Secret n at x) h =
-    let (p, is, many) = hand_many b n b.at_hand (λ p. place_secret p at x) h in
+    let (p, is, many) = hand_many b n b.at_hand (λ p. accept_secret p at x) h in
     (b, p, refl, is, full (length p.secrets) most_secrets _ (in_order_not_many _ _) many)
 too_many_is_above_a_limit (Some b) (Row.Entry n x) h =
-    let (p, is, many) = hand_many b n b.at_hand (λ p. place_entry p x) h in
+    let (p, is, many) = hand_many b n b.at_hand (λ p. accept_entry p x) h in
     (b, p, refl, is, full (length p.entries) most_entries _ (in_order_not_many _ _) many)
 too_many_is_above_a_limit (Some b) (Row.Extension n at x) h =
-    let (p, is, many) = hand_many b n b.at_hand (λ p. place_extension p at x) (second_many b.version _ h) in
+    let (p, is, many) = hand_many b n b.at_hand (λ p. accept_extension p at x) (second_many b.version _ h) in
     (b, p, refl, is, full (length p.extensions) most_extensions _ (in_order_not_many _ _) many)
 too_many_is_above_a_limit (Some b) (Row.Booking n x) h =
-    let (p, is, many) = hand_many b n b.at_hand (λ p. place_booking p x) h in
+    let (p, is, many) = hand_many b n b.at_hand (λ p. accept_booking p x) h in
     in_order_not_many _ _ many
 
 -- ---- rows of no book

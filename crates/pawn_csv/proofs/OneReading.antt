@@ -8,7 +8,7 @@ use Rattle.pawn_csv.proofs.TakenLemmas.{texts_are_read_as}
 use Rattle.pawn_csv.specs.Common.{BookRows, Each, Reached, Read, State, default_config, next_record}
 use Rattle.pawn_csv.specs.Finishing.{IsBegunOf, IsFinishedAs, IsOfNoBook}
 use Rattle.pawn_csv.specs.Laws.{FirstFaultsAreOne, FirstFaultsExcludeBooks}
-use Rattle.pawn_csv.specs.Order.{Begun, is_whole, place, run, then_run}
+use Rattle.pawn_csv.specs.Order.{Begun, is_whole, accept, run, then_run}
 use Rattle.pawn_csv.specs.Reading.{AreTaken, EndsReadingAs, IsFirstCause, IsNoRow, IsReadAs, IsRowRefused, RefusesEnd}
 use Rattle.pawn_csv.specs.Reading.{RefusesRow, Taking}
 use Rattle.pawn_csv.specs.Rows.{FitsColumns, header, row_fields}
@@ -81,17 +81,17 @@ no_answer o b c a e = let x = sym a ∙ e in cc
 one_refusal : (fields : List (List ℕ)) (s : Option Begun) (c d : Cause) → IsRowRefused fields s c → IsRowRefused fields s d → c ≡ d
 one_refusal fields s c d a b =
     let same = one_row a.0 b.0 a.1.0 b.1.0 (sym a.1.1 ∙ b.1.1) in
-    same_answer (place s a.0) c d a.2 (subst (λ (r : Row). place s r ≡ Err d) (sym same) b.2)
+    same_answer (accept s a.0) c d a.2 (subst (λ (r : Row). accept s r ≡ Err d) (sym same) b.2)
 
 -- columns of an accepted row are not refused
-no_refusal : (fields : List (List ℕ)) (s : Option Begun) (r : Row) (b : Begun) (c : Cause) → FitsColumns r → fields ≡ row_fields r → place s r ≡ Ok b
+no_refusal : (fields : List (List ℕ)) (s : Option Begun) (r : Row) (b : Begun) (c : Cause) → FitsColumns r → fields ≡ row_fields r → accept s r ≡ Ok b
     → IsRowRefused fields s c → ⊥
 no_refusal fields s r b c fits spelled placed a =
     let same = one_row r a.0 fits a.1.0 (sym spelled ∙ a.1.1) in
-    no_answer (place s a.0) b c (subst (λ (x : Row). place s x ≡ Ok b) same placed) a.2
+    no_answer (accept s a.0) b c (subst (λ (x : Row). accept s x ≡ Ok b) same placed) a.2
 
 -- columns that were accepted are refused for no cause
-not_taken : (x : List (List ℕ)) (s : Option Begun) (r : Row) (u : Begun) → FitsColumns r → x ≡ row_fields r → place s r ≡ Ok u → (e : Cause) → e ≢ Cause.Memory
+not_taken : (x : List (List ℕ)) (s : Option Begun) (r : Row) (u : Begun) → FitsColumns r → x ≡ row_fields r → accept s r ≡ Ok u → (e : Cause) → e ≢ Cause.Memory
     → RefusesRow x s e → ⊥
 not_taken x s r u fits spelled placed e other (inl memory) = other memory
 not_taken x s r u fits spelled placed e other (inr (inl few)) = few.1 (ap length spelled ∙ fifteen r)
@@ -99,8 +99,8 @@ not_taken x s r u fits spelled placed e other (inr (inr (inl none))) = none.2 r 
 not_taken x s r u fits spelled placed e other (inr (inr (inr refusal))) = no_refusal x s r u e fits spelled placed refusal
 
 -- if rows were accepted, the first one was, and the others were accepted after it
-run_first : (from : Option Begun) (r : Row) (later : List Row) (t : Option Begun) (o : Result Begun Cause) → place from r ≡ o
-    → then_run o (λ v. run v later) ≡ Ok t → (u : Begun) × (place from r ≡ Ok u) × (run (Some u) later ≡ Ok t)
+run_first : (from : Option Begun) (r : Row) (later : List Row) (t : Option Begun) (o : Result Begun Cause) → accept from r ≡ o
+    → then_run o (λ v. run v later) ≡ Ok t → (u : Begun) × (accept from r ≡ Ok u) × (run (Some u) later ≡ Ok t)
 run_first from r later t (Ok u) is ran = (u, is, ran)
 run_first from r later t (Err e) is ran = absurd cc
 
@@ -117,16 +117,16 @@ taken_after : (x : List (List ℕ)) (more fs : List (List (List ℕ))) (front wh
 taken_after x more [] [] [] from s t c why e fits ran e2 fits2 ran2 refused = absurd (omega (arith, ap length e2))
 taken_after x more [] [] (w ∷ ws) from s t c why e fits ran e2 fits2 ran2 refused =
     let here : from ≡ s = cc in
-    let (u, placed, on) = run_first from w ws t (place from w) refl ran2 in
-    not_taken x s w u fits2.0 (sym (head_is w ws x more e2)) (subst (λ (v : Option Begun). place v w ≡ Ok u) here placed) c why refused
+    let (u, placed, on) = run_first from w ws t (accept from w) refl ran2 in
+    not_taken x s w u fits2.0 (sym (head_is w ws x more e2)) (subst (λ (v : Option Begun). accept v w ≡ Ok u) here placed) c why refused
 taken_after x more [] (g ∷ gs) whole from s t c why e fits ran e2 fits2 ran2 refused = absurd (omega (arith, ap length e))
 taken_after x more (f ∷ fs) [] whole from s t c why e fits ran e2 fits2 ran2 refused = absurd (omega (arith, ap length e))
 taken_after x more (f ∷ fs) (g ∷ gs) [] from s t c why e fits ran e2 fits2 ran2 refused = absurd (omega (arith, ap length e2))
 taken_after x more (f ∷ fs) (g ∷ gs) (w ∷ ws) from s t c why e fits ran e2 fits2 ran2 refused =
     let same = one_row g w fits.0 fits2.0 (head_is g gs f fs e ∙ sym (head_is w ws f (fs ++ x ∷ more) e2)) in
-    let (u, placed, on) = run_first from g gs s (place from g) refl ran in
-    let (v, placed2, on2) = run_first from w ws t (place from w) refl ran2 in
-    let one : u ≡ v = (let a = subst (λ (r : Row). place from r ≡ Ok u) same placed in let b = sym a ∙ placed2 in cc) in
+    let (u, placed, on) = run_first from g gs s (accept from g) refl ran in
+    let (v, placed2, on2) = run_first from w ws t (accept from w) refl ran2 in
+    let one : u ≡ v = (let a = subst (λ (r : Row). accept from r ≡ Ok u) same placed in let b = sym a ∙ placed2 in cc) in
     taken_after x more fs gs ws (Some u) s t c why (tail_is g gs f fs e) fits.1 on (tail_is w ws f (fs ++ x ∷ more) e2) fits2.1
     (subst (λ (b : Begun). run (Some b) ws ≡ Ok t) (sym one) on2) refused
 

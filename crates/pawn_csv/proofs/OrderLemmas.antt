@@ -4,7 +4,7 @@ use Rattle.pawn_csv.proofs.Basics.{Result, Ok, Err, refl, sym, ap, subst, append
 use Rattle.pawn_csv.proofs.Basics.{and_parts, append-nil, nat_tests}
 use Rattle.pawn_csv.specs.Common.{Booking, Entry, Extension, Issued, most_entries, most_extensions, most_secrets}
 use Rattle.pawn_csv.specs.Layout.{list_rows, raw_rows}
-use Rattle.pawn_csv.specs.Order.{has_secret, is_nil, is_none, place_booking, place_entry, place_extension, place_secret}
+use Rattle.pawn_csv.specs.Order.{has_secret, is_nil, is_none, accept_booking, accept_entry, accept_extension, accept_secret}
 use Rattle.pawn_csv.specs.Rows.{entry_rows, extension_rows, secret_rows}
 use Rattle.pawn_csv.specs.Types.{Cause, RawPledge, Row}
 use Rattle.std.proofs.lemmas.List.{map-append}
@@ -70,7 +70,7 @@ booking_more n is es xs b =
 abbrev pub Shows : RawPledge → RawPledge → Row → Type 0
 Shows p q row = raw_rows q ≡ raw_rows p ++ row ∷ []
 
-pub secret_shown : (p q : RawPledge) (at : ℕ) (x : Issued) → place_secret p at x ≡ Ok q → Shows p q (Row.Secret p.columns.number at x)
+pub secret_shown : (p q : RawPledge) (at : ℕ) (x : Issued) → accept_secret p at x ≡ Ok q → Shows p q (Row.Secret p.columns.number at x)
 secret_shown p q at x h =
     let new : RawPledge = record p { secrets = p.secrets ++ x ∷ [] } in
     let guard = guard_ok ((at == length p.secrets + 1) && is_nil p.entries && is_nil p.extensions && is_none p.booking) new q Cause.Order
@@ -86,7 +86,7 @@ secret_shown p q at x h =
     (ap (λ (rs : List Row). Row.Pledge p.columns ∷ rs) (secret_more n p.secrets x)) in
     subst (λ (r : RawPledge). Shows p r (Row.Secret n at x)) guard.1 rows
 
-pub entry_shown : (p q : RawPledge) (x : Entry) → place_entry p x ≡ Ok q → Shows p q (Row.Entry p.columns.number x)
+pub entry_shown : (p q : RawPledge) (x : Entry) → accept_entry p x ≡ Ok q → Shows p q (Row.Entry p.columns.number x)
 entry_shown p q x h =
     let new : RawPledge = record p { entries = p.entries ++ x ∷ [] } in
     let guard = guard_ok ((x.seq == length p.entries + 1) && has_secret p && is_nil p.extensions && is_none p.booking) new q Cause.Order
@@ -98,7 +98,7 @@ entry_shown p q x h =
     rw (no_items p.extensions v.1, no_item p.booking w.1) (ap (λ (rs : List Row). Row.Pledge p.columns ∷ rs) (entry_more n p.secrets p.entries x)) in
     subst (λ (r : RawPledge). Shows p r (Row.Entry n x)) guard.1 rows
 
-pub extension_shown : (p q : RawPledge) (at : ℕ) (x : Extension) → place_extension p at x ≡ Ok q → Shows p q (Row.Extension p.columns.number at x)
+pub extension_shown : (p q : RawPledge) (at : ℕ) (x : Extension) → accept_extension p at x ≡ Ok q → Shows p q (Row.Extension p.columns.number at x)
 extension_shown p q at x h =
     let new : RawPledge = record p { extensions = p.extensions ++ x ∷ [] } in
     let guard = guard_ok ((at == length p.extensions + 1) && has_secret p && is_none p.booking) new q Cause.Order
@@ -112,7 +112,7 @@ extension_shown p q at x h =
     rw (no_item p.booking w.1, place) (ap (λ (rs : List Row). Row.Pledge p.columns ∷ rs) (extension_more n p.secrets p.entries p.extensions x)) in
     subst (λ (r : RawPledge). Shows p r (Row.Extension n at x)) guard.1 rows
 
-pub booking_shown : (p q : RawPledge) (x : Booking) → place_booking p x ≡ Ok q → Shows p q (Row.Booking p.columns.number x)
+pub booking_shown : (p q : RawPledge) (x : Booking) → accept_booking p x ≡ Ok q → Shows p q (Row.Booking p.columns.number x)
 booking_shown p q x h =
     let new : RawPledge = record p { booking = Some x } in
     let guard = guard_ok (has_secret p && is_none p.booking) new q Cause.Order h in

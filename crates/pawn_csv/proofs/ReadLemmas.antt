@@ -7,7 +7,7 @@ use Rattle.pawn_csv.proofs.Basics.{option_map, Each-push, length-append, nat_tes
 use Rattle.pawn_csv.specs.Answers.{AnswersBegun, Fails}
 use Rattle.pawn_csv.specs.Common.{ErrorKind, ExplainsRead, NextIs, Reached, Read, ReadRecord, ReadsNext, State}
 use Rattle.pawn_csv.specs.Common.{default_config, next_record, AreRecords, pending_of, source_of, strip_bom}
-use Rattle.pawn_csv.specs.Order.{Begun, place, run, then_run}
+use Rattle.pawn_csv.specs.Order.{Begun, accept, run, then_run}
 use Rattle.pawn_csv.specs.Reading.{AreTaken, AreTakenBefore, CauseOf, EndsReadingAs, IsFaultOf, IsFirstCause, IsSpelled}
 use Rattle.pawn_csv.specs.Reading.{RefusesRow, Taking}
 use Rattle.pawn_csv.specs.Rows.{FitsColumns, row_fields}
@@ -25,10 +25,10 @@ pub record SoFar {R : Type 0} (rem : R → Option (List ℕ)) (text : List ℕ) 
   pub count : length records ≡ index
 
 -- one row after others
-run-push : (rows : List Row) (r : Row) (s t : Option Begun) (b : Begun) → run s rows ≡ Ok t → place t r ≡ Ok b → run s (rows ++ r ∷ []) ≡ Ok (Some b)
+run-push : (rows : List Row) (r : Row) (s t : Option Begun) (b : Begun) → run s rows ≡ Ok t → accept t r ≡ Ok b → run s (rows ++ r ∷ []) ≡ Ok (Some b)
 run-push [] r s t b ran placed = let same : s ≡ t = cc in rw (same, placed) refl
 run-push (q ∷ rows) r s t b ran placed =
-    elim (place s q) as (λ v. then_run v (λ m. run m rows) ≡ Ok t → then_run v (λ m. run m (rows ++ r ∷ [])) ≡ Ok (Some b)) [
+    elim (accept s q) as (λ v. then_run v (λ m. run m rows) ≡ Ok t → then_run v (λ m. run m (rows ++ r ∷ [])) ≡ Ok (Some b)) [
       | Ok m ↦ λ rest. run-push rows r (Some m) t b rest placed
       | Err e ↦ λ rest. cc
     ] ran
@@ -165,13 +165,13 @@ end_fault (Some text) s row (Err f) (records, rows, (state, rest, reached, last)
     }))
 end_fault o s row (Ok k) ends h = tt
 
-refused_for : (fs : List (List ℕ)) (s : Option Begun) (r : Row) (c : Cause) → IsSpelled fs r → Fails (place s r) c → RefusesRow fs s c
+refused_for : (fs : List (List ℕ)) (s : Option Begun) (r : Row) (c : Cause) → IsSpelled fs r → Fails (accept s r) c → RefusesRow fs s c
 refused_for fs s r Cause.Memory spelled h = inl refl
 refused_for fs s r c spelled h = inr (inr (inr (r, spelled, h)))
 
 -- a row that is placed, or refused there
 pub placed_is : {U : Type 0} (first : Bool) (fs : List (List ℕ)) (s new : Option Begun) (r : Row) (res : Result U Cause) → first ≡ false → IsSpelled fs r
-    → AnswersBegun (place s r) res new → Taking first fs s res new
+    → AnswersBegun (accept s r) res new → Taking first fs s res new
 placed_is true fs s new r res is spelled h = cc
 placed_is false fs s new r (Ok u) is spelled h = (r, h.0, spelled, h.1, h.2)
 placed_is false fs s new r (Err e) is spelled h = refused_for fs s r e spelled h

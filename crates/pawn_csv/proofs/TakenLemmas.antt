@@ -10,8 +10,8 @@ use Rattle.pawn_csv.specs.Common.{flat_map, most_entries, most_extensions, most_
 use Rattle.pawn_csv.specs.Finishing.{IsBegunOf, raw_of}
 use Rattle.pawn_csv.specs.Laws.{TextsAreReadAs}
 use Rattle.pawn_csv.specs.Layout.{AreLaidFrom, IsLaidOut, IsWithin, LayoutsAreTaken, laid_rows, list_rows, raw_rows}
-use Rattle.pawn_csv.specs.Order.{Begun, hand, has_secret, in_order, is_nil, is_whole, may_end, on_hand, place}
-use Rattle.pawn_csv.specs.Order.{place_booking, place_entry, place_extension, place_secret, put_hand, raw_pledge, run}
+use Rattle.pawn_csv.specs.Order.{Begun, hand, has_secret, in_order, is_nil, is_whole, may_end, on_hand, accept}
+use Rattle.pawn_csv.specs.Order.{accept_booking, accept_entry, accept_extension, accept_secret, put_hand, raw_pledge, run}
 use Rattle.pawn_csv.specs.Order.{then_run, unless_full}
 use Rattle.pawn_csv.specs.Rows.{Knows, booking_csv_rows, entry_rows, extension_rows, book_csv_rows, secret_rows}
 use Rattle.pawn_csv.specs.Rows.{terms_rows, version_rows}
@@ -31,13 +31,13 @@ not_full count most answer few =
 at_most : (n m : ℕ) → n ≤ m → nat_le n m ≡ true
 at_most n m e = grind (arith, nat_tests, e)
 
-step : (s : Option Begun) (r : Row) (rs : List Row) (b : Begun) → place s r ≡ Ok b → run s (r ∷ rs) ≡ run (Some b) rs
+step : (s : Option Begun) (r : Row) (rs : List Row) (b : Begun) → accept s r ≡ Ok b → run s (r ∷ rs) ≡ run (Some b) rs
 step s r rs b e = ap (λ (o : Result Begun Cause). then_run o (λ t. run t rs)) e
 
 pub run_on : (xs ys : List Row) (s t : Option Begun) → run s xs ≡ Ok t → run s (xs ++ ys) ≡ run t ys
 run_on [] ys s t e = let same : s ≡ t = cc in ap (λ (o : Option Begun). run o ys) same
 run_on (x ∷ xs) ys s t e =
-    elim (place s x) as (λ v. then_run v (λ m. run m xs) ≡ Ok t → then_run v (λ m. run m (xs ++ ys)) ≡ run t ys) [
+    elim (accept s x) as (λ v. then_run v (λ m. run m xs) ≡ Ok t → then_run v (λ m. run m (xs ++ ys)) ≡ run t ys) [
       | Ok b ↦ λ on. run_on xs ys (Some b) t on
       | Err c ↦ λ on. cc
     ] e
@@ -86,9 +86,9 @@ run_secrets v m n k terms pledges c done (i ∷ is) at few =
     let b = begun v m n terms pledges (Some old) in
     let test = and_from ((k == length done + 1) && true && true) true
     (and_from ((k == length done + 1) && true) true (and_from (k == length done + 1) true (equal k (length done + 1) at) refl) refl) refl in
-    let taken : place_secret old k i ≡ Ok new = not_full (length done) most_secrets _ (omega (arith, few)) ∙ ordered _ new test in
+    let taken : accept_secret old k i ≡ Ok new = not_full (length done) most_secrets _ (omega (arith, few)) ∙ ordered _ new test in
     step (Some b) (Row.Secret c.number k i) (secret_rows c.number (k + 1) is) (record b { at_hand = Some new })
-    (put b b.at_hand c.number old new (λ p. place_secret p k i) refl refl taken) ∙ run_secrets v m n (k + 1) terms pledges c (done ++ i ∷ []) is
+    (put b b.at_hand c.number old new (λ p. accept_secret p k i) refl refl taken) ∙ run_secrets v m n (k + 1) terms pledges c (done ++ i ∷ []) is
     (omega (arith, at, longer done i)) (omega (arith, few, longer done i)) ∙ ap (λ (x : List Issued). let r : Result (Option Begun) Cause =
     Ok (Some (begun v m n terms pledges (Some (raw c x [] [] None)))) in r) (append_assoc done (i ∷ []) is)
 
@@ -104,9 +104,9 @@ run_entries v m n k terms pledges c i is done (e ∷ es) numbered at few =
     let b = begun v m n terms pledges (Some old) in
     let test = and_from ((e.seq == length done + 1) && true && true) true (and_from ((e.seq == length done + 1) && true) true
     (and_from (e.seq == length done + 1) true (equal e.seq (length done + 1) (numbered.0 ∙ at)) refl) refl) refl in
-    let taken : place_entry old e ≡ Ok new = not_full (length done) most_entries _ (omega (arith, few)) ∙ ordered _ new test in
+    let taken : accept_entry old e ≡ Ok new = not_full (length done) most_entries _ (omega (arith, few)) ∙ ordered _ new test in
     step (Some b) (Row.Entry c.number e) (entry_rows c.number es) (record b { at_hand = Some new })
-    (put b b.at_hand c.number old new (λ p. place_entry p e) refl refl taken) ∙ run_entries v m n (k + 1) terms pledges c i is (done ++ e ∷ []) es numbered.1
+    (put b b.at_hand c.number old new (λ p. accept_entry p e) refl refl taken) ∙ run_entries v m n (k + 1) terms pledges c i is (done ++ e ∷ []) es numbered.1
     (omega (arith, at, longer done e)) (omega (arith, few, longer done e)) ∙ ap (λ (x : List Entry). let r : Result (Option Begun) Cause =
     Ok (Some (begun v m n terms pledges (Some (raw c (i ∷ is) x [] None)))) in r) (append_assoc done (e ∷ []) es)
 
@@ -121,9 +121,9 @@ run_extensions m n k terms pledges c i is entries done (x ∷ xs) at few =
     let new = raw c (i ∷ is) entries (done ++ x ∷ []) None in
     let b = begun Version.Two m n terms pledges (Some old) in
     let test = and_from ((k == length done + 1) && true) true (and_from (k == length done + 1) true (equal k (length done + 1) at) refl) refl in
-    let taken : place_extension old k x ≡ Ok new = not_full (length done) most_extensions _ (omega (arith, few)) ∙ ordered _ new test in
+    let taken : accept_extension old k x ≡ Ok new = not_full (length done) most_extensions _ (omega (arith, few)) ∙ ordered _ new test in
     step (Some b) (Row.Extension c.number k x) (extension_rows c.number (k + 1) xs) (record b { at_hand = Some new })
-    (put b b.at_hand c.number old new (λ p. place_extension p k x) refl refl taken) ∙ run_extensions m n (k + 1) terms pledges c i is entries (done ++ x ∷ [])
+    (put b b.at_hand c.number old new (λ p. accept_extension p k x) refl refl taken) ∙ run_extensions m n (k + 1) terms pledges c i is entries (done ++ x ∷ [])
     xs (omega (arith, at, longer done x)) (omega (arith, few, longer done x)) ∙ ap (λ (y : List Extension). let r : Result (Option Begun) Cause =
     Ok (Some (begun Version.Two m n terms pledges (Some (raw c (i ∷ is) entries y None)))) in r) (append_assoc done (x ∷ []) xs)
 
@@ -142,7 +142,7 @@ run_booking v m n terms pledges c i is entries xs (Some x) =
     let old = raw c (i ∷ is) entries xs None in
     let new = raw c (i ∷ is) entries xs (Some x) in
     let b = begun v m n terms pledges (Some old) in
-    step (Some b) (Row.Booking c.number x) [] (record b { at_hand = Some new }) (put b b.at_hand c.number old new (λ p. place_booking p x) refl refl refl)
+    step (Some b) (Row.Booking c.number x) [] (record b { at_hand = Some new }) (put b b.at_hand c.number old new (λ p. accept_booking p x) refl refl refl)
 
 -- the rows of a pledge's lists
 run_lists : (v : Version) (m n : ℕ) (terms : List Rates) (pledges : List RawPledge) (c : PledgeColumns) (i : Issued) (is : List Issued) (entries : List Entry)
@@ -225,7 +225,7 @@ are_raw : (ps : List PledgeValue) → Each IsReachable ps → Each (λ p. IsNumb
 are_raw [] h = tt
 are_raw (p ∷ ps) h = (h.0.within.number, are_raw ps h.1)
 
-begins : (v : Version) (m n : ℕ) → m ≤ most_terms → n ≤ most_pledges → place None (Row.Book v m n) ≡ Ok (begun v m n [] [] None)
+begins : (v : Version) (m n : ℕ) → m ≤ most_terms → n ≤ most_pledges → accept None (Row.Book v m n) ≡ Ok (begun v m n [] [] None)
 begins v m n few_terms few_pledges =
     let few : (nat_lt most_terms m || nat_lt most_pledges n) ≡ false = grind (arith, nat_tests, few_terms, few_pledges) in
     ap (λ (t : Bool). let r : Result Begun Cause = cond t (Err Cause.TooMany) (Ok (begun v m n [] [] None)) in r) few

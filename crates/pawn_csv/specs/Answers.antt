@@ -9,9 +9,9 @@ Fails said Cause.Memory = Unit {0}
 Fails said e = said ≡ Err e
 
 -- a call answers as expected, and leaves the expected value
-abbrev pub Places : {A U : Type 0} → Result A Cause → Result U Cause → A → Type 0
-Places said (Ok u) new = said ≡ Ok new
-Places said (Err e) new = Fails said e
+abbrev pub Accepts : {A U : Type 0} → Result A Cause → Result U Cause → A → Type 0
+Accepts said (Ok u) new = said ≡ Ok new
+Accepts said (Err e) new = Fails said e
 
 -- a call returns the expected value, seen in another form
 abbrev pub GivesAs : {A B : Type 0} → (A → B) → Result B Cause → Result A Cause → Type 0

@@ -15,7 +15,7 @@ pub use Rattle.pawn_book.specs.Limits.{most_pledges, most_terms}
 pub use Rattle.pawn_book.specs.Rows.{AreNumberedFrom, AreReplayable, IsUnder, terms_at}
 pub use Rattle.pawn_book.specs.Sound.{IsSound}
 pub use Rattle.pawn_book.specs.Visits.{End, Front, Handed, IsShare, Whole, call_end}
-pub use Rattle.pawn_book.specs.Written.{AreWords, HasTextsAndWords, IsWord}
+pub use Rattle.pawn_book.specs.TextsAndWords.{AreWords, HasTextsAndWords, IsWord}
 pub use Rattle.pawn_book.specs.declared.fault.KeepError.{KeepError}
 pub use Rattle.pawn_book.specs.declared.book_rows.BookRows.{BookRows}
 pub use Rattle.pawn_book.specs.declared.visit.Flow.{Flow}

@@ -6,4 +6,4 @@ use Rattle.pawn_csv.specs.Common.{BookRows, ℕ}
 
 -- the request to fill a book with these terms and pledges, with the book's key and the import's own key
 abbrev pub import_of : ℕ → ℕ → ℕ → BookRows → Request
-import_of book broker key rows = record { book = book; caller = Broker broker (Import key rows) }
+import_of book book_key import_key rows = record { book = book; caller = Broker book_key (Import import_key rows) }

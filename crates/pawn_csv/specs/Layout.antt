@@ -1,7 +1,7 @@
 -- How the rows of a book are laid out, whether or not the book is replayable.
 use Rattle.pawn_csv.specs.Common.{AreNumbered, AreReplayable, BookRows, Booking, Entry, Extension, Issued, Rates}
 use Rattle.pawn_csv.specs.Common.{flat_map, most_entries, most_extensions, most_pledges, most_secrets, most_terms}
-use Rattle.pawn_csv.specs.Order.{Begun, has_secret, is_whole, place, pledges_begun, run}
+use Rattle.pawn_csv.specs.Order.{Begun, has_secret, is_whole, accept, pledges_begun, run}
 use Rattle.pawn_csv.specs.Reading.{RefusesEnd}
 use Rattle.pawn_csv.specs.Rows.{Knows, booking_csv_rows, entry_rows, extension_rows, book_csv_rows, secret_rows}
 use Rattle.pawn_csv.specs.Rows.{terms_rows}
@@ -73,7 +73,7 @@ IsAboveALimit s (Row.Booking number x) = ⊥
 
 -- only a row that exceeds a limit is refused with `TooMany`
 abbrev pub TooManyIsAboveALimit : Type 0
-TooManyIsAboveALimit = (s : Option Begun) (r : Row) → place s r ≡ Err Cause.TooMany → IsAboveALimit s r
+TooManyIsAboveALimit = (s : Option Begun) (r : Row) → accept s r ≡ Err Cause.TooMany → IsAboveALimit s r
 
 -- rows that are laid out are refused with `NotReplayable` if and only if no replayable book has these rows
 abbrev pub NotReplayableIsOfNoBook : Type 0

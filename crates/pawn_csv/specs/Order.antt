@@ -74,52 +74,52 @@ may_end None = true
 may_end (Some p) = has_secret p
 
 -- the first row occurs once
-abbrev pub place_first : Option Begun → Version → ℕ → ℕ → Result Begun Cause
-place_first None version terms pledges =
+abbrev pub accept_first : Option Begun → Version → ℕ → ℕ → Result Begun Cause
+accept_first None version terms pledges =
     Ok (record { version = version; terms_due = terms; pledges_due = pledges; terms = []; pledges = []; at_hand = None })
-place_first (Some b) version terms pledges = Err Cause.Order
+accept_first (Some b) version terms pledges = Err Cause.Order
 
 -- the first row, whose counts are checked against the limits
-abbrev pub place_book : Option Begun → Version → ℕ → ℕ → Result Begun Cause
-place_book s version terms pledges =
-    if nat_lt most_terms terms || nat_lt most_pledges pledges then Err Cause.TooMany else place_first s version terms pledges
+abbrev pub accept_book : Option Begun → Version → ℕ → ℕ → Result Begun Cause
+accept_book s version terms pledges =
+    if nat_lt most_terms terms || nat_lt most_pledges pledges then Err Cause.TooMany else accept_first s version terms pledges
 
 -- the next version of terms, while the first row states more of them; pledges come after all versions of terms
-abbrev pub place_terms : Begun → ℕ → Rates → Result Begun Cause
-place_terms b version rates =
+abbrev pub accept_terms : Begun → ℕ → Rates → Result Begun Cause
+accept_terms b version rates =
     in_order ((version == length b.terms + 1) && nat_le version b.terms_due && (length (pledges_begun b) == 0))
     (record b { terms = b.terms ++ rates ∷ [] })
 
 -- the next pledge, while the first row states more of them and the pledge before it needs no further rows
-abbrev pub place_pledge : Begun → PledgeColumns → Result Begun Cause
-place_pledge b columns =
+abbrev pub accept_pledge : Begun → PledgeColumns → Result Begun Cause
+accept_pledge b columns =
     in_order ((length b.terms == b.terms_due) && may_end b.at_hand && (columns.number == length (pledges_begun b) + 1) && nat_le columns.number b.pledges_due)
     (record b { pledges = pledges_begun b; at_hand = Some (raw_pledge columns) })
 
 -- the next secret, before the other lists
-abbrev pub place_secret : RawPledge → ℕ → Issued → Result RawPledge Cause
-place_secret p place issued =
+abbrev pub accept_secret : RawPledge → ℕ → Issued → Result RawPledge Cause
+accept_secret p place issued =
     unless_full (length p.secrets) most_secrets
     (in_order ((place == length p.secrets + 1) && is_nil p.entries && is_nil p.extensions && is_none p.booking)
     (record p { secrets = p.secrets ++ issued ∷ [] }))
 
 -- the next entry, after the secrets
-abbrev pub place_entry : RawPledge → Entry → Result RawPledge Cause
-place_entry p entry =
+abbrev pub accept_entry : RawPledge → Entry → Result RawPledge Cause
+accept_entry p entry =
     unless_full (length p.entries) most_entries
     (in_order ((entry.seq == length p.entries + 1) && has_secret p && is_nil p.extensions && is_none p.booking)
     (record p { entries = p.entries ++ entry ∷ [] }))
 
 -- the next extension, after the entries
-abbrev pub place_extension : RawPledge → ℕ → Extension → Result RawPledge Cause
-place_extension p place extension =
+abbrev pub accept_extension : RawPledge → ℕ → Extension → Result RawPledge Cause
+accept_extension p place extension =
     unless_full (length p.extensions) most_extensions
     (in_order ((place == length p.extensions + 1) && has_secret p && is_none p.booking)
     (record p { extensions = p.extensions ++ extension ∷ [] }))
 
 -- the booking, last
-abbrev pub place_booking : RawPledge → Booking → Result RawPledge Cause
-place_booking p booking = in_order (has_secret p && is_none p.booking) (record p { booking = Some booking })
+abbrev pub accept_booking : RawPledge → Booking → Result RawPledge Cause
+accept_booking p booking = in_order (has_secret p && is_none p.booking) (record p { booking = Some booking })
 
 -- the begun book with the pledge at hand replaced
 abbrev pub put_hand : Begun → Result RawPledge Cause → Result Begun Cause
@@ -128,8 +128,8 @@ put_hand b (Err e) = Err e
 
 -- a row must belong to the pledge at hand
 abbrev pub on_hand : Begun → ℕ → Option RawPledge → (RawPledge → Result RawPledge Cause) → Result Begun Cause
-on_hand b number None place = Err Cause.Order
-on_hand b number (Some p) place = if p.columns.number == number then put_hand b (place p) else Err Cause.Order
+on_hand b number None step = Err Cause.Order
+on_hand b number (Some p) step = if p.columns.number == number then put_hand b (step p) else Err Cause.Order
 
 -- an extension is refused in a text of version 1
 abbrev pub on_second : Version → Result Begun Cause → Result Begun Cause
@@ -137,25 +137,25 @@ on_second Version.One answer = Err Cause.BadField
 on_second Version.Two answer = answer
 
 -- a row after the first
-abbrev pub place_after : Begun → Row → Result Begun Cause
-place_after b (Row.Book version terms pledges) = place_book (Some b) version terms pledges
-place_after b (Row.Terms version rates) = place_terms b version rates
-place_after b (Row.Pledge columns) = place_pledge b columns
-place_after b (Row.Secret number place issued) = on_hand b number b.at_hand (λ p. place_secret p place issued)
-place_after b (Row.Entry number entry) = on_hand b number b.at_hand (λ p. place_entry p entry)
-place_after b (Row.Extension number place extension) =
-    on_second b.version (on_hand b number b.at_hand (λ p. place_extension p place extension))
-place_after b (Row.Booking number booking) = on_hand b number b.at_hand (λ p. place_booking p booking)
+abbrev pub accept_after : Begun → Row → Result Begun Cause
+accept_after b (Row.Book version terms pledges) = accept_book (Some b) version terms pledges
+accept_after b (Row.Terms version rates) = accept_terms b version rates
+accept_after b (Row.Pledge columns) = accept_pledge b columns
+accept_after b (Row.Secret number place issued) = on_hand b number b.at_hand (λ p. accept_secret p place issued)
+accept_after b (Row.Entry number entry) = on_hand b number b.at_hand (λ p. accept_entry p entry)
+accept_after b (Row.Extension number place extension) =
+    on_second b.version (on_hand b number b.at_hand (λ p. accept_extension p place extension))
+accept_after b (Row.Booking number booking) = on_hand b number b.at_hand (λ p. accept_booking p booking)
 
 -- the first row
-abbrev pub place_before : Row → Result Begun Cause
-place_before (Row.Book version terms pledges) = place_book None version terms pledges
-place_before other = Err Cause.Order
+abbrev pub accept_before : Row → Result Begun Cause
+accept_before (Row.Book version terms pledges) = accept_book None version terms pledges
+accept_before other = Err Cause.Order
 
 -- the effect of a row on what was read so far
-abbrev pub place : Option Begun → Row → Result Begun Cause
-place None row = place_before row
-place (Some b) row = place_after b row
+abbrev pub accept : Option Begun → Row → Result Begun Cause
+accept None row = accept_before row
+accept (Some b) row = accept_after b row
 
 -- go on after a row, unless it was refused
 abbrev pub then_run : Result Begun Cause → (Option Begun → Result (Option Begun) Cause) → Result (Option Begun) Cause
@@ -165,7 +165,7 @@ then_run (Err e) more = Err e
 -- the effect of rows on what was read so far, or the cause of the first row that is refused
 abbrev pub run : Option Begun → List Row → Result (Option Begun) Cause
 run s [] = Ok s
-run s (r ∷ rs) = then_run (place s r) (λ t. run t rs)
+run s (r ∷ rs) = then_run (accept s r) (λ t. run t rs)
 
 -- all that the first row states was read, and the last pledge needs no further rows
 abbrev pub is_whole : Option Begun → Bool

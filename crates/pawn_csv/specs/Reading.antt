@@ -2,7 +2,7 @@
 use Rattle.pawn_csv.specs.Common.{AreRecords, AreReplayable, BookRows, Each, ErrorKind, HasTextsAndWords, Reached, Read}
 use Rattle.pawn_csv.specs.Common.{State, default_config, next_record}
 use Rattle.pawn_csv.specs.Finishing.{IsFinishedAs, IsOfNoBook}
-use Rattle.pawn_csv.specs.Order.{Begun, place, run, is_whole}
+use Rattle.pawn_csv.specs.Order.{Begun, accept, run, is_whole}
 use Rattle.pawn_csv.specs.Rows.{FitsColumns, Knows, header, row_fields, book_csv_rows, version_rows}
 use Rattle.pawn_csv.specs.Types.{Cause, Row, Version}
 use Rattle.std.specs.Prelude.{◌≡◌, ◌≢◌, ◌⊎◌, ℕ, ◌+◌, nat_eq, Bool, true, false, List, [], ◌∷◌, length, map, Option}
@@ -16,7 +16,7 @@ FitsVersion version k = AreReplayable k.terms k.pledges × Knows version k × Ea
 -- of the calendar
 pub record CanBeWritten (k : BookRows) : Type 0 where
   pub replayable : AreReplayable k.terms k.pledges
-  pub written : Each HasTextsAndWords k.pledges
+  pub texts_and_words : Each HasTextsAndWords k.pledges
 
 -- the records of this text are those of the book, in one of the versions
 abbrev pub IsTextOf : List ℕ → BookRows → Type 0
@@ -33,7 +33,7 @@ IsNoRow fields = (r : Row) → FitsColumns r → fields ≡ row_fields r → ⊥
 
 -- the columns spell a row that is refused at this place
 abbrev pub IsRowRefused : List (List ℕ) → Option Begun → Cause → Type 0
-IsRowRefused fields old c = (r : Row) × IsSpelled fields r × (place old r ≡ Err c)
+IsRowRefused fields old c = (r : Row) × IsSpelled fields r × (accept old r ≡ Err c)
 
 -- why a record after the header is not accepted: memory ran out, it has a different number of columns, its columns
 -- spell no row, or the row is refused at this place
@@ -48,7 +48,7 @@ RefusesRow fields old c =
 abbrev pub Taking : {U : Type 0} → Bool → List (List ℕ) → Option Begun → Result U Cause → Option Begun → Type 0
 Taking true fields old (Ok u) new = (fields ≡ header) × (new ≡ old)
 Taking true fields old (Err e) new = (fields ≢ header) × (e ≡ Cause.Columns)
-Taking false fields old (Ok u) new = (r : Row) × (b : Begun) × IsSpelled fields r × (place old r ≡ Ok b) × (new ≡ Some b)
+Taking false fields old (Ok u) new = (r : Row) × (b : Begun) × IsSpelled fields r × (accept old r ≡ Ok b) × (new ≡ Some b)
 Taking false fields old (Err e) new = RefusesRow fields old e
 
 -- these records were accepted: the header, and these rows

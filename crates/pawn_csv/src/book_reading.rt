@@ -53,7 +53,7 @@ fn take_record(
     };
     match row {
         None => Err(Cause::BadField),
-        Some(row) => raw.place(alloc, row),
+        Some(row) => raw.accept(alloc, row),
     }
 }
 

@@ -1,8 +1,8 @@
 //! Checks the order of a book's rows while they are read, and collects them.
-ghost use Rattle.pawn_csv.specs.Answers.{AnswersBegun, GivesAs, Places};
-ghost use Rattle.pawn_csv.specs.Order.{begun_of, has_secret, is_whole, may_end, on_hand, on_second, place, place_after};
-ghost use Rattle.pawn_csv.specs.Order.{place_before, place_booking, place_entry, place_extension, place_pledge};
-ghost use Rattle.pawn_csv.specs.Order.{place_secret, place_terms, pledges_begun, raw_pledge, view_begun};
+ghost use Rattle.pawn_csv.specs.Answers.{AnswersBegun, GivesAs, Accepts};
+ghost use Rattle.pawn_csv.specs.Order.{begun_of, has_secret, is_whole, may_end, accept, accept_after, on_hand, on_second};
+ghost use Rattle.pawn_csv.specs.Order.{accept_before, accept_booking, accept_entry, accept_extension, accept_pledge};
+ghost use Rattle.pawn_csv.specs.Order.{accept_secret, accept_terms, pledges_begun, raw_pledge, view_begun};
 ghost use Rattle.std.specs.Prelude.{◌≡◌, IfOk, Some, length};
 
 use crate::fault::Cause;
@@ -47,8 +47,8 @@ impl RawPledge {
     }
 
     /// Accepts the row of a secret.
-    fn place_secret(&mut self, place: u64, issued: Issued) -> Result<(), Cause>
-        ensures answer { Places (place_secret self.old place issued) result self.new }
+    fn accept_secret(&mut self, place: u64, issued: Issued) -> Result<(), Cause>
+        ensures answer { Accepts (accept_secret self.old place issued) result self.new }
     {
         if self.secrets.len() >= MOST_SECRETS {
             return Err(Cause::TooMany);
@@ -66,8 +66,8 @@ impl RawPledge {
     }
 
     /// Accepts the row of an entry.
-    fn place_entry(&mut self, entry: Entry) -> Result<(), Cause>
-        ensures answer { Places (place_entry self.old entry) result self.new }
+    fn accept_entry(&mut self, entry: Entry) -> Result<(), Cause>
+        ensures answer { Accepts (accept_entry self.old entry) result self.new }
     {
         if self.entries.len() >= MOST_ENTRIES {
             return Err(Cause::TooMany);
@@ -85,8 +85,8 @@ impl RawPledge {
     }
 
     /// Accepts the row of an extension.
-    fn place_extension(&mut self, place: u64, extension: Extension) -> Result<(), Cause>
-        ensures answer { Places (place_extension self.old place extension) result self.new }
+    fn accept_extension(&mut self, place: u64, extension: Extension) -> Result<(), Cause>
+        ensures answer { Accepts (accept_extension self.old place extension) result self.new }
     {
         if self.extensions.len() >= MOST_EXTENSIONS {
             return Err(Cause::TooMany);
@@ -104,8 +104,8 @@ impl RawPledge {
     }
 
     /// Accepts the row of a booking.
-    fn place_booking(&mut self, booking: Booking) -> Result<(), Cause>
-        ensures answer { Places (place_booking self.old booking) result self.new }
+    fn accept_booking(&mut self, booking: Booking) -> Result<(), Cause>
+        ensures answer { Accepts (accept_booking self.old booking) result self.new }
     {
         if !self.has_secret() || self.booking.is_some() {
             return Err(Cause::Order);
@@ -132,7 +132,7 @@ pub(crate) struct BegunBook {
 /// Returns the book that a first row begins. Fails with `Order` if the row is not the first row of a book
 /// (`Row::Book`), and with `TooMany` if one of its counts exceeds its limit.
 fn begin(alloc: Global, row: Row) -> Result<BegunBook, Cause>
-    ensures answer { GivesAs view_begun (place_before row) result }
+    ensures answer { GivesAs view_begun (accept_before row) result }
 {
     let Row::Book {
         version,
@@ -179,8 +179,8 @@ impl BegunBook {
     }
 
     /// Accepts the row of a version of terms.
-    fn place_terms(&mut self, version: u64, rates: Rates) -> Result<(), Cause>
-        ensures answer { Places (place_terms (view_begun self.old) version rates) result (view_begun self.new) }
+    fn accept_terms(&mut self, version: u64, rates: Rates) -> Result<(), Cause>
+        ensures answer { Accepts (accept_terms (view_begun self.old) version rates) result (view_begun self.new) }
     {
         if self.terms.len() as u64 >= self.terms_due || version != self.terms.len() as u64 + 1 {
             return Err(Cause::Order);
@@ -206,8 +206,8 @@ impl BegunBook {
     }
 
     /// Accepts a pledge's own row.
-    fn place_pledge(&mut self, alloc: Global, columns: PledgeColumns) -> Result<(), Cause>
-        ensures answer { Places (place_pledge (view_begun self.old) columns) result (view_begun self.new) }
+    fn accept_pledge(&mut self, alloc: Global, columns: PledgeColumns) -> Result<(), Cause>
+        ensures answer { Accepts (accept_pledge (view_begun self.old) columns) result (view_begun self.new) }
     {
         if self.terms.len() as u64 != self.terms_due || !self.may_end() {
             return Err(Cause::Order);
@@ -222,8 +222,8 @@ impl BegunBook {
     }
 
     /// Accepts the row of a secret of the pledge at hand.
-    fn place_secret(&mut self, number: u64, place: u64, issued: Issued) -> Result<(), Cause>
-        ensures answer { Places (on_hand (view_begun self.old) number self.old.at_hand (λ p. place_secret p place issued)) result (view_begun self.new) }
+    fn accept_secret(&mut self, number: u64, place: u64, issued: Issued) -> Result<(), Cause>
+        ensures answer { Accepts (on_hand (view_begun self.old) number self.old.at_hand (λ p. accept_secret p place issued)) result (view_begun self.new) }
     {
         match &mut self.at_hand {
             None => Err(Cause::Order),
@@ -231,14 +231,14 @@ impl BegunBook {
                 if pledge.columns.number != number {
                     return Err(Cause::Order);
                 }
-                pledge.place_secret(place, issued)
+                pledge.accept_secret(place, issued)
             }
         }
     }
 
     /// Accepts the row of an entry of the pledge at hand.
-    fn place_entry(&mut self, number: u64, entry: Entry) -> Result<(), Cause>
-        ensures answer { Places (on_hand (view_begun self.old) number self.old.at_hand (λ p. place_entry p entry)) result (view_begun self.new) }
+    fn accept_entry(&mut self, number: u64, entry: Entry) -> Result<(), Cause>
+        ensures answer { Accepts (on_hand (view_begun self.old) number self.old.at_hand (λ p. accept_entry p entry)) result (view_begun self.new) }
     {
         match &mut self.at_hand {
             None => Err(Cause::Order),
@@ -246,21 +246,21 @@ impl BegunBook {
                 if pledge.columns.number != number {
                     return Err(Cause::Order);
                 }
-                pledge.place_entry(entry)
+                pledge.accept_entry(entry)
             }
         }
     }
 
     /// Accepts the row of an extension of the pledge at hand. Fails with `BadField` if the text has version 1, which
     /// has no extensions.
-    fn place_extension(
+    fn accept_extension(
         &mut self,
         number: u64,
         place: u64,
         extension: Extension,
     ) -> Result<(), Cause>
-        ensures answer { Places (on_second self.old.version
-            (on_hand (view_begun self.old) number self.old.at_hand (λ p. place_extension p place extension))) result (view_begun self.new) }
+        ensures answer { Accepts (on_second self.old.version
+            (on_hand (view_begun self.old) number self.old.at_hand (λ p. accept_extension p place extension))) result (view_begun self.new) }
     {
         if let Version::One = self.version {
             return Err(Cause::BadField);
@@ -271,14 +271,14 @@ impl BegunBook {
                 if pledge.columns.number != number {
                     return Err(Cause::Order);
                 }
-                pledge.place_extension(place, extension)
+                pledge.accept_extension(place, extension)
             }
         }
     }
 
     /// Accepts the row of the booking of the pledge at hand.
-    fn place_booking(&mut self, number: u64, booking: Booking) -> Result<(), Cause>
-        ensures answer { Places (on_hand (view_begun self.old) number self.old.at_hand (λ p. place_booking p booking)) result (view_begun self.new) }
+    fn accept_booking(&mut self, number: u64, booking: Booking) -> Result<(), Cause>
+        ensures answer { Accepts (on_hand (view_begun self.old) number self.old.at_hand (λ p. accept_booking p booking)) result (view_begun self.new) }
     {
         match &mut self.at_hand {
             None => Err(Cause::Order),
@@ -286,14 +286,14 @@ impl BegunBook {
                 if pledge.columns.number != number {
                     return Err(Cause::Order);
                 }
-                pledge.place_booking(booking)
+                pledge.accept_booking(booking)
             }
         }
     }
 
     /// Accepts a row after the first.
-    fn place(&mut self, alloc: Global, row: Row) -> Result<(), Cause>
-        ensures answer { Places (place_after (view_begun self.old) row) result (view_begun self.new) }
+    fn accept(&mut self, alloc: Global, row: Row) -> Result<(), Cause>
+        ensures answer { Accepts (accept_after (view_begun self.old) row) result (view_begun self.new) }
     {
         match row {
             Row::Book { terms, pledges, .. } => {
@@ -302,20 +302,20 @@ impl BegunBook {
                 }
                 Err(Cause::Order)
             }
-            Row::Terms { version, rates } => self.place_terms(version, rates),
-            Row::Pledge(columns) => self.place_pledge(alloc, columns),
+            Row::Terms { version, rates } => self.accept_terms(version, rates),
+            Row::Pledge(columns) => self.accept_pledge(alloc, columns),
             Row::Secret {
                 number,
                 place,
                 issued,
-            } => self.place_secret(number, place, issued),
-            Row::Entry { number, entry } => self.place_entry(number, entry),
+            } => self.accept_secret(number, place, issued),
+            Row::Entry { number, entry } => self.accept_entry(number, entry),
             Row::Extension {
                 number,
                 place,
                 extension,
-            } => self.place_extension(number, place, extension),
-            Row::Booking { number, booking } => self.place_booking(number, booking),
+            } => self.accept_extension(number, place, extension),
+            Row::Booking { number, booking } => self.accept_booking(number, booking),
         }
     }
 
@@ -338,11 +338,11 @@ pub(crate) struct RawBook {
 
 impl RawBook {
     /// Accepts the next row.
-    pub(crate) fn place(&mut self, alloc: Global, row: Row) -> Result<(), Cause>
-        ensures answer { AnswersBegun (place (begun_of self.old) row) result (begun_of self.new) }
+    pub(crate) fn accept(&mut self, alloc: Global, row: Row) -> Result<(), Cause>
+        ensures answer { AnswersBegun (accept (begun_of self.old) row) result (begun_of self.new) }
     {
         match &mut self.begun {
-            Some(begun) => begun.place(alloc, row),
+            Some(begun) => begun.accept(alloc, row),
             None => {
                 self.begun = Some(begin(alloc, row)?);
                 Ok(())

@@ -222,7 +222,7 @@ acted_shown start stamp bytes answer kept book day receipts text out read day_is
     acted_text start stamp bytes answer kept (present_request book receipts) (Shown stamp.day shown) plain out read step
     (ap (reply_text 200 plain) same) states goes
 
--- ---- what the holder of a book's key asks for
+-- ---- what a viewer asks for
 
 abbrev pub view_request : ℕ → ℕ → View → Request
 view_request book key view = record { book = book; caller = Viewer key view }

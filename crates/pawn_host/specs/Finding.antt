@@ -4,19 +4,19 @@ use Rattle.pawn_host.specs.Limits.{most_reads}
 use Rattle.pawn_host.specs.Split.{IsCut, HasFault, HasNoWhole}
 use Rattle.pawn_host.specs.declared.session.Cause.{Cause}
 use Rattle.pawn_host.specs.declared.session.Cause.TheVariants.{Read, Reads, Write}
-use Rattle.pawn_host.specs.declared.session.Filled.{Filled}
+use Rattle.pawn_host.specs.declared.session.ReadMore.{ReadMore}
 use Rattle.pawn_host.specs.declared.session.Rest.{Rest}
 use Rattle.pawn_host.specs.declared.session.Rest.TheVariants.{AtEnd, CutOff, Faulty, NoMemory, Stopped}
 use Rattle.std.specs.Prelude.{◌≡◌, ℕ, ◌+◌, ◌<◌, ◌≤◌, Bool, true, false, List, [], ◌∷◌, ◌++◌, length, Option, Result, Ok}
 use Rattle.std.specs.Prelude.{Err, IfOk}
 
 -- the effect of a read on the reader and the buffer
-abbrev pub IsFilled : Filled → Option (List ℕ) → Option (List ℕ) → List ℕ → List ℕ → Type 0
-IsFilled Filled.More a b old new = (piece : List ℕ) × (0 < length piece) × (new ≡ old ++ piece) × Consumes a b piece
-IsFilled Filled.Done a b old new = (new ≡ old) × Keeps a b × IsAtEnd b
-IsFilled Filled.Failed a b old new = Keeps a b
-IsFilled Filled.OutOfReads a b old new = Keeps a b
-IsFilled Filled.NoRoom a b old new = (piece : List ℕ) × Consumes a b piece
+abbrev pub HasReadMore : ReadMore → Option (List ℕ) → Option (List ℕ) → List ℕ → List ℕ → Type 0
+HasReadMore ReadMore.More a b old new = (piece : List ℕ) × (0 < length piece) × (new ≡ old ++ piece) × Consumes a b piece
+HasReadMore ReadMore.Done a b old new = (new ≡ old) × Keeps a b × IsAtEnd b
+HasReadMore ReadMore.Failed a b old new = Keeps a b
+HasReadMore ReadMore.OutOfReads a b old new = Keeps a b
+HasReadMore ReadMore.NoRoom a b old new = (piece : List ℕ) × Consumes a b piece
 
 -- why there is no further request in the stream
 abbrev pub FindsRest : List ℕ → Rest → Type 0
@@ -51,12 +51,12 @@ StopsBy (Err NoMemory) was failed reads = failed ≡ was
 StopsBy (Err (Stopped cause)) was failed reads = IsCausedBy cause failed reads false
 
 -- how many reads were made, and whether one failed
-abbrev pub FilledBy : Filled → Bool → Bool → ℕ → ℕ → Type 0
-FilledBy Filled.More was failed old new = (old < most_reads) × (new ≡ old + 1) × (failed ≡ was)
-FilledBy Filled.Done was failed old new = (new ≡ old + 1) × (failed ≡ was)
-FilledBy Filled.Failed was failed old new = (new ≡ old + 1) × (failed ≡ true)
-FilledBy Filled.OutOfReads was failed old new = (new ≡ most_reads) × (new ≡ old)
-FilledBy Filled.NoRoom was failed old new = (new ≡ old + 1) × (failed ≡ was)
+abbrev pub CountsReads : ReadMore → Bool → Bool → ℕ → ℕ → Type 0
+CountsReads ReadMore.More was failed old new = (old < most_reads) × (new ≡ old + 1) × (failed ≡ was)
+CountsReads ReadMore.Done was failed old new = (new ≡ old + 1) × (failed ≡ was)
+CountsReads ReadMore.Failed was failed old new = (new ≡ old + 1) × (failed ≡ true)
+CountsReads ReadMore.OutOfReads was failed old new = (new ≡ most_reads) × (new ≡ old)
+CountsReads ReadMore.NoRoom was failed old new = (new ≡ old + 1) × (failed ≡ was)
 
 -- each read returned a piece, and was made while the buffer did not begin with a whole request
 abbrev pub AreMissing : List ℕ → List (List ℕ) → Type 0

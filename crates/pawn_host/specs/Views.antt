@@ -1,4 +1,4 @@
--- How a view is shown to the holder of a book's key.
+-- How a view is shown to the broker who has a book's key.
 use Rattle.pawn_host.specs.Common.{Keeping, Refusal, Request, Stamp, View, ViewFault, Viewer, out_text}
 use Rattle.pawn_host.specs.Keeps.{Answers, IsKeyOf, ForEachStart, States, answer_bytes}
 use Rattle.pawn_host.specs.declared.service.Answer.{Answer}
@@ -11,8 +11,8 @@ abbrev pub AnswersRequest : {K : Type 0} → Keeping K → Service K → Service
 AnswersRequest k old new stamp request answer = ForEachStart k old new (λ start. Answers start stamp request (answer_bytes answer))
 
 -- a call of the service answers a view of a book, if its key was given
-abbrev pub AnswersHolder : {K : Type 0} → Keeping K → Service K → Service K → Stamp → ℕ → ℕ → View → Answer → Type 0
-AnswersHolder k old new stamp book key view answer =
+abbrev pub AnswersViewer : {K : Type 0} → Keeping K → Service K → Service K → Stamp → ℕ → ℕ → View → Answer → Type 0
+AnswersViewer k old new stamp book key view answer =
     ForEachStart k old new
     (λ start kept. IsKeyOf start.host book key → Answers start stamp (record { book = book; caller = Viewer key view }) (answer_bytes answer) kept)
 

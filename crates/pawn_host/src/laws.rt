@@ -48,7 +48,7 @@ pub fn run_reads_events()
 {}
 
 /// Two runs one after the other are one run, if the second starts from the host after the first.
-pub fn runs_join()
+pub fn runs_compose()
     ensures law { RunsCompose }
 {}
 

@@ -21,7 +21,7 @@ mod worked;
 
 pub use laws::{
     ambiguous_ends, crash_leaves_whole, fault_is_exact, items_are_unique, nothing_is_wanted,
-    run_reads_events, runs_answer_alone, runs_join, shards_answer_as_one, split_ends_early,
+    run_reads_events, runs_answer_alone, runs_compose, shards_answer_as_one, split_ends_early,
     split_is_front, split_is_unique, whole_requests_begin_a_split,
 };
 pub use limits::{MOST_READS, MOST_REQUESTS};

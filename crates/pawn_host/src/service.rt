@@ -5,7 +5,7 @@ ghost use Rattle.pawn_host.specs.Common.{Bearer, Present, Viewer, out_text};
 ghost use Rattle.pawn_host.specs.Headline.{IsRunOfSlots};
 ghost use Rattle.pawn_host.specs.Keeps.{IsActed, IsRun, ForEachStart, StaysOpen, States, answer_bytes, service_keep};
 ghost use Rattle.pawn_host.specs.Keeps.{service_operator};
-ghost use Rattle.pawn_host.specs.Views.{AnswersHolder, AnswersRequest, StatesView};
+ghost use Rattle.pawn_host.specs.Views.{AnswersViewer, AnswersRequest, StatesView};
 ghost use Rattle.std.specs.Prelude.{◌≡◌, IfOk, OnErr, map};
 ghost use Rattle.pawn_reply.specs.declared.reply.Out.TheVariants as wire;
 
@@ -117,7 +117,7 @@ impl<K: Keep> Service<K> {
         view_answer(self.alloc, shown, text, Refusal::NoSuchReceipt)
     }
 
-    /// Checks the key of a book, and shows the view to the holder of the key.
+    /// Checks the key of a book, and shows the view to the broker who has it.
     fn gate_and_show(&mut self, stamp: &Stamp, book: Number, key: Secret, view: View) -> Answer
         ensures stays { StaysOpen K.keeping self.old self.new }
         ensures acted { AnswersRequest K.keeping self.old self.new stamp.now (record { book = book; caller = Viewer key view }) result }
@@ -132,7 +132,7 @@ impl<K: Keep> Service<K> {
     /// Shows a view of a book whose key has been checked.
     fn show_past_gate(&mut self, stamp: &Stamp, book: Number, key: Secret, view: View) -> Answer
         ensures stays { StaysOpen K.keeping self.old self.new }
-        ensures acted { AnswersHolder K.keeping self.old self.new stamp.now book key view result }
+        ensures acted { AnswersViewer K.keeping self.old self.new stamp.now book key view result }
     {
         match view {
             View::Pledge(number) => self.show_pledge(stamp, book, key, number),
@@ -144,7 +144,7 @@ impl<K: Keep> Service<K> {
     /// Shows a pledge of a book whose key has been checked.
     fn show_pledge(&mut self, stamp: &Stamp, book: Number, key: Secret, number: Number) -> Answer
         ensures stays { StaysOpen K.keeping self.old self.new }
-        ensures acted { AnswersHolder K.keeping self.old self.new stamp.now book key (Pledge number) result }
+        ensures acted { AnswersViewer K.keeping self.old self.new stamp.now book key (Pledge number) result }
     {
         let mut writer = Writing::new(Vec::new(self.alloc));
         let day = stamp.day.day();
@@ -156,7 +156,7 @@ impl<K: Keep> Service<K> {
     /// Shows the sheet of a day of a book whose key has been checked.
     fn show_sheet(&mut self, stamp: &Stamp, book: Number, key: Secret, day: RequestDay) -> Answer
         ensures stays { StaysOpen K.keeping self.old self.new }
-        ensures acted { AnswersHolder K.keeping self.old self.new stamp.now book key (Sheet day) result }
+        ensures acted { AnswersViewer K.keeping self.old self.new stamp.now book key (Sheet day) result }
     {
         let mut writer = Writing::new(Vec::new(self.alloc));
         let shown = show_day_sheet(&mut self.keep, book, day.day(), &mut writer);
@@ -167,7 +167,7 @@ impl<K: Keep> Service<K> {
     /// Exports the rows of a book whose key has been checked.
     fn show_rows(&mut self, stamp: &Stamp, book: Number, key: Secret) -> Answer
         ensures stays { StaysOpen K.keeping self.old self.new }
-        ensures acted { AnswersHolder K.keeping self.old self.new stamp.now book key Rows result }
+        ensures acted { AnswersViewer K.keeping self.old self.new stamp.now book key Rows result }
     {
         let mut rows = RowWriter::new(self.alloc, Vec::new(self.alloc));
         let shown = export(&mut self.keep, book, &mut rows);

@@ -1,7 +1,7 @@
 //! One session: the service reads the requests of a stream, answers them and writes the replies, one after the other.
 ghost use Rattle.pawn_host.specs.Common.{Keeps, prepend_known, write_failed, written_bytes};
 ghost use Rattle.pawn_host.specs.Ends.{left_of, read_failed, reads};
-ghost use Rattle.pawn_host.specs.Finding.{FilledBy, FindsHead, FindsRest, HasHead, IsCausedBy, IsFetched, IsFilled};
+ghost use Rattle.pawn_host.specs.Finding.{CountsReads, FindsHead, FindsRest, HasHead, IsCausedBy, IsFetched, HasReadMore};
 ghost use Rattle.pawn_host.specs.Finding.{StopsBy};
 ghost use Rattle.pawn_host.specs.Keeps.{ForEachStart, StaysOpen, answer_bytes};
 ghost use Rattle.pawn_host.specs.Limits.{most_request_bytes};
@@ -73,7 +73,7 @@ pub struct IoFault {
 /// The result of one read: bytes were added to the buffer, the stream is over, the read failed, no reads are left, or
 /// memory ran out.
 #[derive(Clone, Copy)]
-enum Filled {
+enum ReadMore {
     More,
     Done,
     Failed,
@@ -94,23 +94,23 @@ enum Rest {
 
 /// Makes one read, and adds its bytes to the buffer. When no reads are left, the result is `OutOfReads` even if the
 /// stream is over, because only another read would show that.
-fn fill<R: Read>(reader: &mut Reading<R>, buffer: &mut Buffer) -> Filled
-    ensures filled { IsFilled result (left_of R.remaining reader.old) (left_of R.remaining reader.new) (unanswered buffer.old) (unanswered buffer.new) }
-    ensures by { FilledBy result (read_failed reader.old) (read_failed reader.new) (reads reader.old) (reads reader.new) }
+fn read_more<R: Read>(reader: &mut Reading<R>, buffer: &mut Buffer) -> ReadMore
+    ensures read { HasReadMore result (left_of R.remaining reader.old) (left_of R.remaining reader.new) (unanswered buffer.old) (unanswered buffer.new) }
+    ensures by { CountsReads result (read_failed reader.old) (read_failed reader.new) (reads reader.old) (reads reader.new) }
 {
     if reader.reads() >= MOST_READS {
-        return Filled::OutOfReads;
+        return ReadMore::OutOfReads;
     }
     let mut piece = [0u8; 8192];
     let Ok(n) = reader.read(&mut piece) else {
-        return Filled::Failed;
+        return ReadMore::Failed;
     };
     if n == 0 {
-        return Filled::Done;
+        return ReadMore::Done;
     }
     match buffer.add(&piece[..n]) {
-        Ok(()) => Filled::More,
-        Err(_) => Filled::NoRoom,
+        Ok(()) => ReadMore::More,
+        Err(_) => ReadMore::NoRoom,
     }
 }
 
@@ -131,18 +131,18 @@ fn await_head<R: Read>(reader: &mut Reading<R>, buffer: &mut Buffer) -> Result<H
             HeadRead::Fault(fault) => return Err(Rest::Faulty(fault)),
             HeadRead::Partial => (),
         }
-        match fill(reader, buffer) {
-            Filled::More => (),
-            Filled::Done => {
+        match read_more(reader, buffer) {
+            ReadMore::More => (),
+            ReadMore::Done => {
                 return Err(if buffer.as_slice().is_empty() {
                     Rest::AtEnd
                 } else {
                     Rest::CutOff
                 });
             }
-            Filled::Failed => return Err(Rest::Stopped(Cause::Read)),
-            Filled::OutOfReads => return Err(Rest::Stopped(Cause::Reads)),
-            Filled::NoRoom => return Err(Rest::NoMemory),
+            ReadMore::Failed => return Err(Rest::Stopped(Cause::Read)),
+            ReadMore::OutOfReads => return Err(Rest::Stopped(Cause::Reads)),
+            ReadMore::NoRoom => return Err(Rest::NoMemory),
         }
     }
 }
@@ -175,12 +175,12 @@ fn await_body<R: Read>(
 {
     let needed = request_len(&head);
     while buffer.as_slice().len() < needed {
-        match fill(reader, buffer) {
-            Filled::More => (),
-            Filled::Done => return Err(Rest::CutOff),
-            Filled::Failed => return Err(Rest::Stopped(Cause::Read)),
-            Filled::OutOfReads => return Err(Rest::Stopped(Cause::Reads)),
-            Filled::NoRoom => return Err(Rest::NoMemory),
+        match read_more(reader, buffer) {
+            ReadMore::More => (),
+            ReadMore::Done => return Err(Rest::CutOff),
+            ReadMore::Failed => return Err(Rest::Stopped(Cause::Read)),
+            ReadMore::OutOfReads => return Err(Rest::Stopped(Cause::Reads)),
+            ReadMore::NoRoom => return Err(Rest::NoMemory),
         }
     }
     Ok(head)

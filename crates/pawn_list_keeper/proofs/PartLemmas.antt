@@ -1,6 +1,6 @@
 -- The items of a day's sheet, part by part and window by window.
 use Rattle.pawn_book.proofs.SheetLemmas.{hands_one, hands_stop, hands_then, windows_begin, windows_more}
-use Rattle.pawn_book.specs.declared.sheet.Part.{Part}
+use Rattle.pawn_book.specs.declared.sheet.SheetPart.{SheetPart}
 use Rattle.pawn_list_keeper.specs.Common.{Flow, Go, HandsOver, PledgeValue, SheetItem, Stop, cons_option, flat_map}
 use Rattle.pawn_list_keeper.specs.Common.{part_head, part_item, part_items, window_items, windows_below, with_head}
 use Rattle.std.proofs.Common.{◌≡◌, ◌≢◌, ◌∙◌, ℕ, ◌+◌, ◌-◌, ◌<◌, ◌≤◌, suc, List, [], ◌∷◌, ◌++◌, Option, None, Some, refl}
@@ -50,7 +50,7 @@ length-cons_option (Some y) ys = omega arith
 pub length-filter_map : {X Y : Type 0} (h : X → Option Y) (xs : List X) → length (filter_map h xs) ≡ count_by (λ x. is_some (h x)) xs
 length-filter_map h xs = is_count_by (λ ys. length (filter_map h ys)) (λ x. is_some (h x)) refl (λ x ys. length-cons_option (h x) (filter_map h ys)) xs
 
-module _ {V : Type 0} (step : V → SheetItem → Flow → V → Type 0) (v u w : V) (part : Part) (day : ℕ) (pledges : List PledgeValue) (heading : SheetItem)
+module _ {V : Type 0} (step : V → SheetItem → Flow → V → Type 0) (v u w : V) (part : SheetPart) (day : ℕ) (pledges : List PledgeValue) (heading : SheetItem)
     (count : ℕ) where
   headed : heading ≡ part_head part count → count ≡ count_by (λ p. is_some (part_item part day p)) pledges
       → heading ∷ part_items part day pledges ≡ with_head part (part_items part day pledges)
@@ -72,11 +72,11 @@ module _ {V : Type 0} (step : V → SheetItem → Flow → V → Type 0) (v u w 
       (hands_stop step v w (heading ∷ []) (part_items part day pledges) (hands_one step v w heading Stop here))
 
 -- a window without a confirmed visit, and one with a confirmed visit
-pub window_none : (part : Part) (items : List SheetItem) → length items ≡ 0 → window_items part items ≡ []
+pub window_none : (part : SheetPart) (items : List SheetItem) → length items ≡ 0 → window_items part items ≡ []
 window_none part [] none = refl
 window_none part (i ∷ is) none = absurd (omega (arith, none))
 
-pub window_some : (part : Part) (items : List SheetItem) → length items ≢ 0 → window_items part items ≡ with_head part items
+pub window_some : (part : SheetPart) (items : List SheetItem) → length items ≢ 0 → window_items part items ≡ with_head part items
 window_some part [] some = absurd (some refl)
 window_some part (i ∷ is) some = refl
 

@@ -68,7 +68,11 @@ pub(crate) fn make_change(
             number,
             pledge,
         } => put_pledge(books, *book, *number, pledge),
-        Change::ImportBook { book, key, rows } => fill_book(alloc, books, *book, *key, rows),
+        Change::ImportBook {
+            book,
+            import_key,
+            rows,
+        } => { fill_book(alloc, books, *book, *import_key, rows) },
     }
 }
 

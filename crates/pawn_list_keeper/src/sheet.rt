@@ -5,7 +5,7 @@ ghost use Rattle.pawn_pledge.specs.Words.{is_open};
 ghost use Rattle.std.specs.Prelude.{◌≡◌, count_by, is_some};
 
 use pawn_book::{
-    Booking, BookingState, Closing, Day, Flow, Number, Part, Pledge, SheetItem, Visitor,
+    Booking, BookingState, Closing, Day, Flow, Number, Pledge, SheetItem, SheetPart, Visitor,
 };
 use pawn_pledge::LAST_WINDOW;
 
@@ -48,20 +48,20 @@ fn is_open(closing: Closing) -> bool
 }
 
 /// The item of a pledge in a part of the sheet, if it has one there.
-fn item_of(part: Part, day: Day, pledge: &Pledge) -> Option<SheetItem>
+fn item_of(part: SheetPart, day: Day, pledge: &Pledge) -> Option<SheetItem>
     ensures value { result ≡ part_item part day pledge.now }
 {
     let number = pledge.agreement().number;
     let standing = pledge.standing();
     match part {
-        Part::Confirmed { window } => {
+        SheetPart::Confirmed { window } => {
             if is_confirmed_for(standing.booking, day, window) {
                 return Some(SheetItem::Confirmed(number));
             }
             None
         }
-        Part::Asked => asked_item(number, day, standing.booking),
-        Part::Ends => {
+        SheetPart::Asked => asked_item(number, day, standing.booking),
+        SheetPart::Ends => {
             if is_open(standing.closing) && pledge.ends() == day {
                 return Some(SheetItem::Ends(number));
             }
@@ -71,7 +71,7 @@ fn item_of(part: Part, day: Day, pledge: &Pledge) -> Option<SheetItem>
 }
 
 /// How many pledges have an item in a part of the sheet.
-fn count_of(part: Part, day: Day, pledges: &[Pledge]) -> u64
+fn count_of(part: SheetPart, day: Day, pledges: &[Pledge]) -> u64
     ensures value { result ≡ count_by (λ p. is_some (part_item part day p)) pledges.now }
 {
     pledges
@@ -82,7 +82,7 @@ fn count_of(part: Part, day: Day, pledges: &[Pledge]) -> u64
 
 /// Passes a part's items to the visitor until it answers `Stop`.
 fn hand_part<V: Visitor<SheetItem>>(
-    part: Part,
+    part: SheetPart,
     day: Day,
     pledges: &[Pledge],
     visitor: &mut V,
@@ -102,7 +102,7 @@ fn hand_part<V: Visitor<SheetItem>>(
 
 /// Passes the part's heading, which has the number of its items, and then the items, until the visitor answers `Stop`.
 fn hand_headed<V: Visitor<SheetItem>>(
-    part: Part,
+    part: SheetPart,
     day: Day,
     pledges: &[Pledge],
     visitor: &mut V,
@@ -126,7 +126,7 @@ fn hand_window<V: Visitor<SheetItem>>(
 ) -> Flow
     ensures hands { HandsOver V.step visitor.old (window_sheet pledges.now day window) result visitor.new }
 {
-    let part = Part::Confirmed { window };
+    let part = SheetPart::Confirmed { window };
     if count_of(part, day, pledges) == 0 {
         return Flow::Go;
     }
@@ -159,9 +159,9 @@ pub(crate) fn hand_sheet<V: Visitor<SheetItem>>(
         Flow::Go => {}
         Flow::Stop => return Flow::Stop,
     }
-    match hand_headed(Part::Asked, day, pledges, visitor) {
+    match hand_headed(SheetPart::Asked, day, pledges, visitor) {
         Flow::Go => {}
         Flow::Stop => return Flow::Stop,
     }
-    hand_headed(Part::Ends, day, pledges, visitor)
+    hand_headed(SheetPart::Ends, day, pledges, visitor)
 }

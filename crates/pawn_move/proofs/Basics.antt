@@ -1,4 +1,4 @@
--- What these proofs use from elsewhere: the standard words and lemmas, those of the crates below, and this crate's specs.
+-- What these proofs use from elsewhere: the standard words and lemmas, those of the crates that this one depends on, and this crate's specs.
 pub use Rattle.one_table.proofs.Lent.{clean_before, lent_then, rests_then}
 pub use Rattle.pawn_base.proofs.ListLemmas.{Each-push, take_next, take_past}
 pub use Rattle.pawn_base.proofs.TestLemmas.{below, both_told, same_key}

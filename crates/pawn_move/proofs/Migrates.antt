@@ -81,7 +81,7 @@ module _ (s0 s1 : State) (last : IsTrue s0.is_open → (trees : Trees) → s0.ma
   not_told why it = record {
     found = λ clean. tt;
     moved = λ clean n h schema none st. failing s1 n h why (it.stands clean n h schema st);
-    refuses = λ clean. unmovable why (it.refuses clean);
+    refused = λ clean. unmovable why (it.refused clean);
     empty = λ clean none. bare why (it.empty clean none);
     err = it.same;
     ended = it.ended;
@@ -118,7 +118,7 @@ module _ (s0 s1 : State) (last : IsTrue s0.is_open → (trees : Trees) → s0.ma
     moved = λ clean n h schema none st. let was = before s2 from three it (Ok tt) added clean in
         let stood = ours s2 from three it (Ok tt) added was n h schema st in let done = added.ok clean (it.ok was).1 in
         (λ i. (stood.0 i, 3), opens_as s2 h one done.0 added.ended done.2 (left done.0) (gains_stands s1.now s2.now h done.1 stood.1));
-    refuses = λ clean. tt;
+    refused = λ clean. tt;
     empty = λ clean none. it.empty (before s2 from three it (Ok tt) added clean) none;
     err = λ clean. tt;
     ended = added.ended;
@@ -137,7 +137,7 @@ module _ (s0 s1 : State) (last : IsTrue s0.is_open → (trees : Trees) → s0.ma
   not_indexed s2 from three it cause added why failure = record {
     found = λ clean. tt;
     moved = λ clean n h schema none st. failing s2 n h why failure;
-    refuses = λ clean. unmovable why (untellable s0.now why failure);
+    refused = λ clean. unmovable why (untellable s0.now why failure);
     empty = λ clean none. absurd (it.empty (before s2 from three it (Err cause) added clean) none);
     err = λ clean. then_as_before s0 s1 s2 (λ now. it.same (before s2 from three it (Err cause) added clean)) (added.err clean);
     ended = added.ended;
@@ -169,7 +169,7 @@ module _ (s0 s1 : State) (last : IsTrue s0.is_open → (trees : Trees) → s0.ma
     found = λ clean. ((it.ok (early s2 from it (Ok tt) mv clean)).0, it.known, refl);
     moved = λ clean n h schema none st. let told = (on s2 from it (Ok tt) mv (early s2 from it (Ok tt) mv clean) n h schema st).0 in
         (λ i. (told i, 3), moves s2 from it (Ok tt) mv clean n h schema none st);
-    refuses = λ clean. tt;
+    refused = λ clean. tt;
     empty = λ clean none. it.empty (early s2 from it (Ok tt) mv clean) none;
     err = λ clean. tt;
     ended = mv.ended;
@@ -193,7 +193,7 @@ module _ (s0 s1 : State) (last : IsTrue s0.is_open → (trees : Trees) → s0.ma
     found = λ clean. tt;
     moved = λ clean n h schema none st. unmoved n h e (moves s2 from it (Err e) mv clean n h schema none st);
     empty = λ clean none. absurd (it.empty (early s2 from it (Err e) mv clean) none);
-    refuses = λ clean. refuses e (from, (it.ok (early s2 from it (Err e) mv clean)).0, it.known)
+    refused = λ clean. refused e (from, (it.ok (early s2 from it (Err e) mv clean)).0, it.known)
         (λ n h schema none st. moves s2 from it (Err e) mv clean n h schema none st);
     err = λ clean. then_as_before s0 s1 s2 (λ now. it.same (early s2 from it (Err e) mv clean)) (mv.err clean);
     ended = mv.ended;
@@ -210,8 +210,8 @@ module _ (s0 s1 : State) (last : IsTrue s0.is_open → (trees : Trees) → s0.ma
     no_sound h None at found = found at
     no_sound h (Some k) at found = (0, (k, at, λ sound. absurd (let least = sound.0.0 in omega (arith, least))))
 
-    refuses : (x : KeepError) → ((n : ℕ) × NotesSchema s0.now n × IsSchema n) → ((n : ℕ) (h : Host) → IsSchema n → get h.books 0 ≡ None → StandsUnder n s0.now h
+    refused : (x : KeepError) → ((n : ℕ) × NotesSchema s0.now n × IsSchema n) → ((n : ℕ) (h : Host) → IsSchema n → get h.books 0 ≡ None → StandsUnder n s0.now h
         → Finds {A = Unit {0}} (Err x) (λ done. OpensAs s2 h) (HasUnsoundBook h)) → IsUnmovable s0.now (move_fault_of x)
-    refuses Keeper.Memory noted it = tt
-    refuses (Keeper.Store NoRecord) noted it = (noted, λ n h schema st. no_sound h (get h.books 0) refl (λ none. it n h schema none st))
-    refuses (Keeper.Store Database) noted it = tt
+    refused Keeper.Memory noted it = tt
+    refused (Keeper.Store NoRecord) noted it = (noted, λ n h schema st. no_sound h (get h.books 0) refl (λ none. it n h schema none st))
+    refused (Keeper.Store Database) noted it = tt

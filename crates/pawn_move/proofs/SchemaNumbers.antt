@@ -131,7 +131,7 @@ module _ (old new : State) where
     known = known r noted verdict;
     ok = λ clean. accepted r noted verdict (it.ok clean) (it.usable clean);
     stands = λ clean n h schema st. represented n h schema st r noted verdict (it.ok clean);
-    refuses = λ clean. refused r noted verdict (it.ok clean);
+    refused = λ clean. refused r noted verdict (it.ok clean);
     empty = λ clean none. bare none r noted verdict (it.ok clean);
     same = it.same;
     ended = it.ended;
@@ -157,7 +157,7 @@ module _ (old new : State) where
     known = tt;
     ok = λ clean. tt;
     stands = λ clean n h schema st. failure;
-    refuses = λ clean. unmovable why failure;
+    refused = λ clean. unmovable why failure;
     empty = λ clean none. none_of_ours why failure;
     same = it.same;
     ended = it.ended;

@@ -84,7 +84,7 @@ pub record StatesNumber (old new : State) (result : Result ℕ MoveFault) : Type
   pub known : IfOk result IsSchema
   pub ok : HasCleanDisk new → IfOk result (λ n. NotesSchema old.now n × IsTrue new.is_open)
   pub stands : HasCleanDisk new → (n : ℕ) (h : Host) → IsSchema n → StandsUnder n old.now h → IsSameNumber n result
-  pub refuses : HasCleanDisk new → IfErr result (HasNoKnownSchema old.now)
+  pub refused : HasCleanDisk new → IfErr result (HasNoKnownSchema old.now)
   pub empty : HasCleanDisk new → IsEmptyStore old.now → IsNotOurs result
   pub same : HasCleanDisk new → IsAsBefore old new
   pub ended : new.in_transaction ≡ false
@@ -114,7 +114,7 @@ HoldSameHost old trees = (n : ℕ) (h : Host) → IsSchema n → get h.books 0 �
 pub record Migrates (old new : State) (result : Result (ℕ × ℕ) MoveFault) : Type 0 where
   pub found : HasCleanDisk new → IfOk result (λ answer. NotesSchema old.now answer.0 × IsSchema answer.0 × (answer.1 ≡ 3))
   pub moved : HasCleanDisk new → (n : ℕ) (h : Host) → IsSchema n → get h.books 0 ≡ None → StandsUnder n old.now h → IsMoved n h new result
-  pub refuses : HasCleanDisk new → IfErr result (IsUnmovable old.now)
+  pub refused : HasCleanDisk new → IfErr result (IsUnmovable old.now)
   pub empty : HasCleanDisk new → IsEmptyStore old.now → IsNotOurs result
   pub err : HasCleanDisk new → OnErr result (IsAsBefore old new)
   pub ended : new.in_transaction ≡ false

@@ -88,7 +88,7 @@ module _ (image : Image) (s : State) (opened : Opens s × IsLive s) (found : Fin
           reads = found.reads;
           holds = found.holds;
           sound = (opened.1 opened.0.is_open).1;
-          refused = subst (λ d. IsRefusedFor d why) same (p.refuses fair);
+          refused = subst (λ d. IsRefusedFor d why) same (p.refused fair);
           crash = λ trees may. elim (p.crash fair opened.0.is_open trees (quiet.outcomes trees may))
               [ inl last ↦ inl last | inr made ↦ inr (subst (λ d. AreMadeOf d limit trees) same made) ];
         },

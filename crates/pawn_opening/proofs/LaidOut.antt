@@ -4,7 +4,7 @@ use Rattle.pawn_opening.specs.Common.{Database, IsDatabase, HasCleanDisk, State,
 use Rattle.pawn_opening.specs.Common.{StandForOne, HoldHost, StandsFor}
 use Rattle.pawn_opening.specs.Indexing.{HasBothIndexes}
 use Rattle.pawn_opening.specs.Laying.{AreEmpty}
-use Rattle.pawn_opening.specs.Opened.{Fills, LaysOut, empty_host}
+use Rattle.pawn_opening.specs.Opened.{MakesFirstContent, LaysOut, empty_host}
 use Rattle.pawn_opening.specs.Refusing.{IsEmptyStore, IsStoreFault}
 use Rattle.pawn_opening.specs.declared.fault.OpenFault.{OpenFault}
 use Rattle.sqlite.proofs.StateLemmas.{survives_then}
@@ -28,7 +28,8 @@ module _ (old new begun lent : State) (limit : ℕ) (was : IsBegun old begun) (e
         (survives_then begun lent new (λ _. ⊥) (λ _. ⊥) (λ _. ⊥) (λ clean db none. none) (λ clean db none. none) part.survives after);
   }
 
-  module _ (part : IsLent begun lent true) (fills : Fills {E = Error} begun lent limit (Ok tt)) (after : Survives lent new (λ db. db ≡ lent.now.trees)) where
+  module _ (part : IsLent begun lent true) (fills : MakesFirstContent {E = Error} begun lent limit (Ok tt))
+      (after : Survives lent new (λ db. db ≡ lent.now.trees)) where
     clean_past : HasCleanDisk new → HasCleanDisk lent
     clean_past clean = let up = after.clean in omega (arith, clean, up)
 

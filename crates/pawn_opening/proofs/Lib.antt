@@ -2,7 +2,7 @@ pub mod Basics
 pub mod Begun
 pub mod Creating
 pub mod EmptyHost
-pub mod Filled
+pub mod FirstContents
 pub mod Found
 pub mod Gained
 pub mod IndexedStore

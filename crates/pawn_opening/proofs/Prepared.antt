@@ -39,7 +39,7 @@ module _ (old new : State) (limit : ℕ) (r : Result (Unit {0}) OpenFault)
     stands = λ clean h st. absurd (not_empty old.now h st empty);
     bare = λ clean empty'. it.why;
     ours = λ clean h st. it.why;
-    refuses = λ clean. faults r it.why;
+    refused = λ clean. faults r it.why;
     err = it.err;
     ended = it.ended;
     survives = laid;
@@ -69,7 +69,7 @@ module _ (old new : State) (limit : ℕ) (r : Result (Unit {0}) OpenFault)
     stands = λ clean h st. subst (λ x. OnOk x (OpensAs new h)) (sym is) tt;
     bare = λ clean empty. absurd (other empty);
     ours = λ clean h st. alone h st r (it.err clean other);
-    refuses = λ clean. it.err clean other;
+    refused = λ clean. it.err clean other;
     err = λ clean. subst (λ x. OnErr x (IsAsBefore old new)) (sym is) (it.same clean);
     ended = it.ended;
     survives = same_store;
@@ -108,7 +108,7 @@ module _ (old new : State) (limit : ℕ) (r : Result (Unit {0}) OpenFault)
       stands = λ clean h st. accepted clean h st r (it.ok clean (usable (clean_mid clean)));
       bare = λ clean empty. absurd (other empty);
       ours = λ clean h st. it.why;
-      refuses = λ clean. faults r it.why;
+      refused = λ clean. faults r it.why;
       err = λ clean. kept clean r (it.err clean);
       ended = it.ended;
       survives = survived;

@@ -14,8 +14,8 @@ abbrev pub empty_host : ℕ → Host
 empty_host limit = record { books = empty; limit = limit }
 
 -- within a transaction an empty store gets the tables of the empty host with this limit, and the program's indexes
-abbrev pub Fills : {E : Type 0} → State → State → ℕ → Result (Unit {0}) E → Type 0
-Fills old new limit result = HasCleanDisk new → IsTrue old.in_transaction → AreEmpty no_schema old.now
+abbrev pub MakesFirstContent : {E : Type 0} → State → State → ℕ → Result (Unit {0}) E → Type 0
+MakesFirstContent old new limit result = HasCleanDisk new → IsTrue old.in_transaction → AreEmpty no_schema old.now
     → OnOk result (StandsFor new.now (empty_host limit) × HasBothIndexes new.now.schema)
 
 -- The store is open, no transaction is under way, and it stands for this host. Everything that a crash can leave of it
@@ -91,7 +91,7 @@ pub record Prepares (old new : State) (limit : ℕ) (result : Result (Unit {0}) 
   -- an empty store, or one that stands for a host, is refused only by Store or Memory
   pub bare : HasCleanDisk new → IsEmptyStore old.now → IfErr result IsStoreFault
   pub ours : HasCleanDisk new → (h : Host) → StandsFor old.now h → IfErr result IsStoreFault
-  pub refuses : HasCleanDisk new → IfErr result (IsRefusedFor old.now)
+  pub refused : HasCleanDisk new → IfErr result (IsRefusedFor old.now)
   pub err : HasCleanDisk new → OnErr result (IsAsBefore old new)
   pub ended : new.in_transaction ≡ false
   pub survives : Survives old new (AreMadeOf old.now limit)

@@ -20,7 +20,7 @@ pub fn connect_path<S: Start>(
     ensures holds { IfOk result (λ conn. HasCleanDisk (file_state conn) → (db : Database) → HoldsIn (image_at S.Start) db → (file_state conn).now ≡ db) }
     ensures usable { IfOk result (λ conn. HasCleanDisk (file_state conn) → IsTrue (file_state conn).is_open) }
     ensures mode { IfOk result (λ conn. conn.in_transaction ≡ false) }
-    ensures refuses { IfErr result IsStoreFault }
+    ensures refused { IfErr result IsStoreFault }
 {
     let options = options(rt)?;
     let files = files_at(rt, path, start)?;

@@ -23,7 +23,7 @@ pub(crate) fn files_at<S: Start>(
 ) -> Result<Files<FileFrom<S>>, OpenFault>
     ensures usable { IfOk result (λ files. IsTrue (file_is_usable S.Start files.log) × IsTrue (file_is_usable S.Start files.db)) }
     ensures fresh { IfOk result (λ files. IsFresh true files.log × IsFresh false files.db) }
-    ensures refuses { IfErr result IsStoreFault }
+    ensures refused { IfErr result IsStoreFault }
 {
     if path == ":memory:" || path.starts_with("file:") {
         return Err(OpenFault::Store);
@@ -41,7 +41,7 @@ pub(crate) fn files_at<S: Start>(
 /// The options of a database: a random seed for its log, and how many pages are cached. The error is `Store`, if no
 /// random number is available.
 pub(crate) fn options(rt: &HostRuntime) -> Result<Options, OpenFault>
-    ensures refuses { IfErr result IsStoreFault }
+    ensures refused { IfErr result IsStoreFault }
 {
     let Ok(random) = RandomState::new(rt) else {
         return Err(OpenFault::Store);

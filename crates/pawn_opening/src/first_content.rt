@@ -1,6 +1,6 @@
 //! Makes the content of a new store.
 ghost use Rattle.pawn_opening.specs.Common.{state, Lends};
-ghost use Rattle.pawn_opening.specs.Opened.{Fills};
+ghost use Rattle.pawn_opening.specs.Opened.{MakesFirstContent};
 ghost use Rattle.std.specs.Prelude.{is_ok};
 
 use crate::indexing::{Lacking, make_indexes};
@@ -16,7 +16,7 @@ pub(crate) fn make_first_content<S: Alter>(
     tx: &mut Transaction<'_, S>,
     limit: u32,
 ) -> Result<(), Error>
-    ensures filled { Fills (state S.Store tx.old.conn.now) (state S.Store tx.new.conn.now) limit result }
+    ensures made { MakesFirstContent (state S.Store tx.old.conn.now) (state S.Store tx.new.conn.now) limit result }
     ensures lent { Lends S.Store tx.old.conn tx.new.conn (is_ok result) }
 {
     make_tables(tx)?;

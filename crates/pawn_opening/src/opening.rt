@@ -23,7 +23,7 @@ pub fn open_memory(alloc: Global, limit: u32) -> Result<Connection<MemStore>, Op
     requires least { 1 ≤ limit }
     requires most { limit ≤ most_rows }
     ensures opens { IfOk result (λ conn. OpensAs (state over_memory conn) (empty_host limit)) }
-    ensures refuses { IfErr result IsStoreFault }
+    ensures refused { IfErr result IsStoreFault }
 {
     let Ok(mut conn) = Connection::open_in_memory(alloc) else {
         return Err(OpenFault::Memory);
@@ -55,7 +55,7 @@ pub fn open_files<D: Disk + Drop>(
     ensures stands { IfOk result (λ conn. HasCleanDisk (file_state conn) → (h : Host) → StandsIn (image_of D.Disk files) h → OpensAs (file_state conn) h) }
     ensures found { IfOk result (λ conn. HasCleanDisk (file_state conn) → OpensFound (image_of D.Disk files) (file_state conn)) }
     ensures mode { IfOk result (λ conn. conn.in_transaction ≡ false) }
-    ensures refuses { IfErr result (λ e. IsCleanLeft e.1 → RefusesFiles files limit e.0 e.1) }
+    ensures refused { IfErr result (λ e. IsCleanLeft e.1 → RefusesFiles files limit e.0 e.1) }
 {
     let mut conn = match Connection::open_files(alloc, files, options) {
         Ok(conn) => conn,
@@ -87,7 +87,7 @@ pub fn open_path<S: Start>(
     ensures found { IfOk result (λ conn. HasCleanDisk (file_state conn) → OpensFound (image_at S.Start) (file_state conn)) }
     ensures mode { IfOk result (λ conn. conn.in_transaction ≡ false) }
     ensures unopened { IfErr result (λ e. e.1 ≡ None → IsStoreFault e.0) }
-    ensures refuses { IfErr result (λ e. IfSome e.1
+    ensures refused { IfErr result (λ e. IfSome e.1
         (λ rest. (files : _) × IsFresh true files.log × IsFresh false files.db × (IsCleanLeft rest → RefusesContent (image_at S.Start) files limit e.0 rest))) }
 {
     let options = match options(rt) {
@@ -112,7 +112,7 @@ pub fn close_files<D: Disk + Drop>(
     ensures usable { IfOk result (λ files. IsTrue (D.Disk.is_usable files.log) × IsTrue (D.Disk.is_usable files.db)) }
     ensures clean { IfOk result (λ files. AreClean D.Disk files.log files.db → HasCleanDisk (file_state conn)) }
     ensures kept { IfOk result (λ files. AreClean D.Disk files.log files.db → (h : Host) → HasCommitted (file_state conn) h → AreClosedFor D.Disk files h) }
-    ensures refuses { IfErr result (λ e. IsLeftUnclosed conn e.0 e.1) }
+    ensures refused { IfErr result (λ e. IsLeftUnclosed conn e.0 e.1) }
 {
     match conn.close_files() {
         Ok(files) => Ok(files),

@@ -1,6 +1,6 @@
 -- Tables that stand for a host, and tables that list its rows.
 use Rattle.pawn_base.proofs.ListLemmas.{◌&◌}
-use Rattle.pawn_book.specs.Written.{AreWords}
+use Rattle.pawn_book.specs.TextsAndWords.{AreWords}
 use Rattle.pawn_saving.proofs.Basics.{IsPermutation-refl, swapped}
 use Rattle.pawn_saving.proofs.OurTables.{with_tables}
 use Rattle.pawn_saving.specs.Common.{Database, AreSound, HasTextsAndWords, with_rows, ListsOurs}
@@ -97,8 +97,8 @@ pub are_storable : (h : Host) → AreSound h → AreStorable h
 are_storable h sound b k is = let s = (sound b k is).1 in record {
   key = s.key;
   imported = s.imported;
-  secrets = each_weaker HasTextsAndWords (λ p. AreWords p.secrets) (λ p written. written.secrets) k.pledges s.written;
-  taken = each_weaker HasTextsAndWords (λ p. first_day ≤ p.agreement.taken) (λ p written. written.taken.0) k.pledges s.written;
+  secrets = each_weaker HasTextsAndWords (λ p. AreWords p.secrets) (λ p written. written.secrets) k.pledges s.texts_and_words;
+  taken = each_weaker HasTextsAndWords (λ p. first_day ≤ p.agreement.taken) (λ p written. written.taken.0) k.pledges s.texts_and_words;
   versions = let few = s.rows.few_terms in omega (arith, few);
 }
 

@@ -41,7 +41,11 @@ fn write_rows<S: Alter>(tx: &mut Transaction<'_, S>, change: &Change) -> Result<
             number,
             pledge,
         } => put_pledge(tx, *book, *number, pledge),
-        Change::ImportBook { book, key, rows } => import_book(tx, *book, *key, rows),
+        Change::ImportBook {
+            book,
+            import_key,
+            rows,
+        } => import_book(tx, *book, *import_key, rows),
     }
 }
 

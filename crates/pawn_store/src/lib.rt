@@ -2,13 +2,13 @@
 //! state what holds for the answers and for the store.
 #![tactic(auto)]
 
+mod connections;
 mod laws;
-mod listening;
 mod opening;
 mod running;
 
+pub use connections::{CONNECTIONS, StoreShut, serve_to_the_end};
 pub use laws::{empty_host_is_sound, opened_has_answered_nothing, other_rows_stay};
-pub use listening::{CONNECTIONS, StoreShut, serve_to_the_end};
 pub use opening::{close_keep, keep_at_path, keep_in_memory};
 pub use pawn_host::{Answer, Service, Stamp};
 pub use pawn_opening::OpenFault;

@@ -28,7 +28,7 @@ pub fn keep_in_memory(alloc: Global, limit: u32) -> Result<TableKeep<MemStore>, 
     requires least { 1 ≤ limit }
     requires most { limit ≤ most_rows }
     ensures opens { IfOk result (λ keep. OpensAs (state over_memory keep.conn) (empty_host limit)) }
-    ensures refuses { IfErr result IsStoreFault }
+    ensures refused { IfErr result IsStoreFault }
 {
     let conn = open_memory(alloc, limit)?;
     match TableKeep::over(alloc, conn) {
@@ -59,7 +59,7 @@ pub fn keep_at_path<S: Start>(
     ensures found { IfOk result (λ keep. HasCleanDisk (file_state keep.conn) → OpensFound (image_at S.Start) (file_state keep.conn)) }
     ensures reopens { IfOk result (λ keep. HasCleanDisk (file_state keep.conn) → Reopens (image_at S.Start) (file_state keep.conn)) }
     ensures unopened { IfErr result (λ e. e.1 ≡ None → IsStoreFault e.0) }
-    ensures refuses { IfErr result (λ e. IfSome e.1
+    ensures refused { IfErr result (λ e. IfSome e.1
         (λ rest. (files : _) × IsFresh true files.log × IsFresh false files.db × (IsCleanLeft rest → RefusesContent (image_at S.Start) files limit e.0 rest))) }
 {
     let conn = open_path(rt, path, start, limit)?;
@@ -76,7 +76,7 @@ pub fn close_keep<D: Disk + Drop>(
 ) -> Result<Files<D>, (OpenFault, FileStore<D>)>
     ensures usable { IfOk result (λ files. IsTrue (D.Disk.is_usable files.log) × IsTrue (D.Disk.is_usable files.db)) }
     ensures kept { IfOk result (λ files. AreClean D.Disk files.log files.db → (h : Host) → Keeps (file_state keep.conn) h → AreClosedFor D.Disk files h) }
-    ensures refuses { IfErr result (λ e. IsLeftUnclosed keep.conn e.0 e.1) }
+    ensures refused { IfErr result (λ e. IsLeftUnclosed keep.conn e.0 e.1) }
 {
     match close_files(keep.into_connection()) {
         Ok(files) => Ok(files),

@@ -13,12 +13,12 @@ use Rattle.pawn_table_keeper.proofs.TooMany.{too_many}
 use Rattle.pawn_table_keeper.specs.Common.{NoRecord}
 use Rattle.pawn_table_keeper.specs.Common.{BookValue, Flow, Go, HandsOver, Host, IsShare, IsUnsoundAt, KeepError}
 use Rattle.pawn_table_keeper.specs.Common.{Keeping, PledgeValue, Reads, Stop, call_end, flat_map, get, pledge_in, pledges_of}
-use Rattle.pawn_table_keeper.specs.Exports.{AddsKind, AreKindPages, number_rows, numbers_from, rows_of_number, page_or_book_rows}
+use Rattle.pawn_table_keeper.specs.Exports.{AddsKind, AreKindPages, number_rows, numbers_from, pledge_rows_if_any, page_or_book_rows}
 use Rattle.pawn_table_keeper.specs.Handing.{HandsRows, flow_of}
 use Rattle.pawn_pledge.specs.declared.record.Booking.{Booking}
 use Rattle.pawn_tables.proofs.Basics.{filter-append, length-map, map-append, nat_tests}
 use Rattle.sqlite_trees.proofs.ListLemmas.{all-append}
-use Rattle.pawn_tables.specs.Kinds.{IsKindPage, own_items, kind_rows, row_kinds, rows_of_kind}
+use Rattle.pawn_tables.specs.Kinds.{IsKindPage, own_items, kind_rows, row_kinds, kind_rows_if_any}
 use Rattle.pawn_tables.specs.declared.kinds.RowKind.{RowKind}
 use Rattle.pawn_tables.specs.declared.ranges.KindPage.{KindPage}
 use Rattle.pawn_base.specs.Lists.{Each}
@@ -85,26 +85,27 @@ module _ {K V T : Type 0} (k : Keeping K) (step : V → T → Flow → V → Typ
 -- ---- the rows that pages tell
 
 module _ (above n : ℕ) (book : Option BookValue) (low : above < n) where
-  page_told : (page : KindPage) → IsKindPage above book page → page_or_book_rows n book page ≡ rows_of_kind page.kind (pledge_in book n)
+  page_told : (page : KindPage) → IsKindPage above book page → page_or_book_rows n book page ≡ kind_rows_if_any page.kind (pledge_in book n)
   page_told page is = go (nat_le n page.whole) refl where
-    go : (c : Bool) → nat_le n page.whole ≡ c → cond c (own_items n page.items.items) (rows_of_kind page.kind (pledge_in book n))
-        ≡ rows_of_kind page.kind (pledge_in book n)
+    go : (c : Bool) → nat_le n page.whole ≡ c → cond c (own_items n page.items.items) (kind_rows_if_any page.kind (pledge_in book n))
+        ≡ kind_rows_if_any page.kind (pledge_in book n)
     go true within = is n low (grind (arith, nat_tests, within))
     go false past = refl
 
   pages_told : (pages : List KindPage) → Each (IsKindPage above book) pages
-      → flat_map (page_or_book_rows n book) pages ≡ flat_map (λ kind. rows_of_kind kind (pledge_in book n)) (map (λ (p : KindPage). p.kind) pages)
+      → flat_map (page_or_book_rows n book) pages ≡ flat_map (λ kind. kind_rows_if_any kind (pledge_in book n)) (map (λ (p : KindPage). p.kind) pages)
   pages_told [] all = refl
   pages_told (page ∷ pages) all = λ i. page_told page all.0 i ++ pages_told pages all.1 i
 
-  kinds_told : (o : Option PledgeValue) → flat_map (λ kind. rows_of_kind kind o) row_kinds ≡ rows_of_number o
+  kinds_told : (o : Option PledgeValue) → flat_map (λ kind. kind_rows_if_any kind o) row_kinds ≡ pledge_rows_if_any o
   kinds_told None = refl
   kinds_told (Some p) = ap (λ l. kind_rows RowKind.Pledge p ++ (kind_rows RowKind.Secret p ++ (kind_rows RowKind.Entry p ++ (kind_rows RowKind.Extension p ++
       l))))
       (append-nil (kind_rows RowKind.Booking p))
 
   pub pledge_told : (pages : List KindPage) → AreKindPages row_kinds above book pages → flat_map (page_or_book_rows n book) pages ≡ number_rows book n
-  pledge_told pages are = pages_told pages are.each ∙ ap (flat_map (λ kind. rows_of_kind kind (pledge_in book n))) are.kinds_are ∙ kinds_told (pledge_in book n)
+  pledge_told pages are = pages_told pages are.each ∙ ap (flat_map (λ kind. kind_rows_if_any kind (pledge_in book n))) are.kinds_are
+      ∙ kinds_told (pledge_in book n)
 
 -- ---- the rows of a range of numbers
 
@@ -123,17 +124,17 @@ numbers_append a (suc n) m = let next : suc n + m ≡ suc (n + m) = omega arith 
 abbrev pub rows_past : Option BookValue → ℕ → List RowItem
 rows_past book a = rows_of_pledges (drop a (pledges_of book))
 
-past_one : (ps : List PledgeValue) (a : ℕ) → rows_of_pledges (drop a ps) ≡ rows_of_number (slice_get ps a) ++ rows_of_pledges (drop (a + 1) ps)
+past_one : (ps : List PledgeValue) (a : ℕ) → rows_of_pledges (drop a ps) ≡ pledge_rows_if_any (slice_get ps a) ++ rows_of_pledges (drop (a + 1) ps)
 past_one [] zero = refl
 past_one [] (suc a) = ap rows_of_pledges (sym (drop-nil (suc a + 1)))
 past_one (p ∷ ps) zero = refl
 past_one (p ∷ ps) (suc a) = let next : suc a + 1 ≡ suc (a + 1) = omega arith in
-    past_one ps a ∙ ap (λ k. rows_of_number (slice_get ps a) ++ rows_of_pledges (drop k (p ∷ ps))) (sym next)
+    past_one ps a ∙ ap (λ k. pledge_rows_if_any (slice_get ps a) ++ rows_of_pledges (drop k (p ∷ ps))) (sym next)
 
 pub past_range : (book : Option BookValue) (a n : ℕ) → rows_past book a ≡ flat_map (number_rows book) (numbers_from a n) ++ rows_past book (a + n)
 past_range book a zero = let same : a ≡ a + zero = omega arith in ap (rows_past book) same
 past_range book a (suc n) = let moved : a + 1 + n ≡ a + suc n = omega arith in
-    past_one (pledges_of book) a ∙ ap (λ o. rows_of_number o ++ rows_past book (a + 1)) (sym (pledge_at book a (a + 1) refl))
+    past_one (pledges_of book) a ∙ ap (λ o. pledge_rows_if_any o ++ rows_past book (a + 1)) (sym (pledge_at book a (a + 1) refl))
     ∙ ap (λ l. number_rows book (a + 1) ++ l) (past_range book (a + 1) n
     ∙ ap (λ b. flat_map (number_rows book) (numbers_from (a + 1) n) ++ rows_past book b) moved)
     ∙ sym (append_assoc (number_rows book (a + 1)) (flat_map (number_rows book) (numbers_from (a + 1) n)) (rows_past book (a + suc n)))
@@ -167,8 +168,8 @@ few_rows RowKind.Booking p reachable = booked p.standing.booking where
   booked None = omega arith
   booked (Some k) = omega arith
 
-pub too_many_rows : (kind : RowKind) (h : Host) (b n : ℕ) → most_entries < length (rows_of_kind kind (pledge_in (get h.books b) n)) → IsUnsoundAt b h
-too_many_rows kind = too_many (rows_of_kind kind) most_entries refl (few_rows kind)
+pub too_many_rows : (kind : RowKind) (h : Host) (b n : ℕ) → most_entries < length (kind_rows_if_any kind (pledge_in (get h.books b) n)) → IsUnsoundAt b h
+too_many_rows kind = too_many (kind_rows_if_any kind) most_entries refl (few_rows kind)
 
 -- ---- the rows of one pledge among those of a page
 
@@ -291,8 +292,8 @@ no_rows (Some k) said = absurd (let e = said in cc)
 
 -- past the page's end the rows are those of the book
 pub told_past : (n : ℕ) (book : Option BookValue) (page : KindPage) → nat_le n page.whole ≡ false
-    → rows_of_kind page.kind (pledge_in book n) ≡ page_or_book_rows n book page
-told_past n book page past = sym (ap (λ c. cond c (own_items n page.items.items) (rows_of_kind page.kind (pledge_in book n))) past)
+    → kind_rows_if_any page.kind (pledge_in book n) ≡ page_or_book_rows n book page
+told_past n book page past = sym (ap (λ c. cond c (own_items n page.items.items) (kind_rows_if_any page.kind (pledge_in book n))) past)
 
 module _ {K V : Type 0} (k : Keeping K) (step : V → RowItem → Flow → V → Type 0) {IsUnsound : Host → Type 0} (book : Host → Option BookValue) (n : ℕ) (a b : K)
     (v u : V) (before : HandsRows k IsUnsound step a b v u (Ok Go) (λ h. flat_map (number_rows (book h)) (numbers_from 0 (n * 32)))) where

@@ -1,33 +1,33 @@
 -- The first page of a part's lines.
 use Rattle.pawn_book.proofs.SheetLemmas.{windows_more}
 use Rattle.pawn_table_keeper.specs.Common.{flat_map, list_any, PledgeValue, part_items, window_items, window_sheet}
-use Rattle.pawn_table_keeper.specs.Common.{windows_below, windows_sheet, with_head, Part, SheetItem, IsLinesPage}
+use Rattle.pawn_table_keeper.specs.Common.{windows_below, windows_sheet, with_head, SheetPart, SheetItem, IsLinesPage}
 use Rattle.pawn_table_keeper.specs.Common.{NamesWindows, item_of, items_past, most_page_rows, page_end}
 use Rattle.pawn_table_keeper.specs.Windows.{named_sheet, named_sheets}
 use Rattle.pawn_tables.specs.declared.line.Line.{Line}
 use Rattle.std.proofs.Common.{◌≡◌, ◌≢◌, ◌==◌, ◌∙◌, ◌++◌, ◌<◌, ◌≤◌, ℕ, zero, suc, Bool, true, false, cond, List, [], ◌∷◌}
 use Rattle.std.proofs.Common.{length, map, refl, sym, ap, append-nil, arith}
-use Rattle.pawn_book.specs.declared.sheet.Part.TheVariants as part_of
+use Rattle.pawn_book.specs.declared.sheet.SheetPart.TheVariants as part_of
 
-abbrev items_of : Part → List Line → List SheetItem
+abbrev items_of : SheetPart → List Line → List SheetItem
 items_of part page = map (item_of part) page
 
-module _ (part : Part) (day : ℕ) (ps : List PledgeValue) (page : List Line) (told : IsLinesPage part day 0 ps page) where
+module _ (part : SheetPart) (day : ℕ) (ps : List PledgeValue) (page : List Line) (told : IsLinesPage part day 0 ps page) where
   -- a page that is not full has them all
   pub whole_page : length page < most_page_rows → part_items part day ps ≡ items_of part page
   whole_page short = told.goes_on ∙ ap (λ xs. items_of part page ++ xs) (told.is_last short) ∙ append-nil (items_of part page)
 
 -- a window with a confirmed visit is named
-some_head : (part : Part) (page : List Line) (more : List SheetItem) → page ≢ []
+some_head : (part : SheetPart) (page : List Line) (more : List SheetItem) → page ≢ []
     → window_items part (items_of part page ++ more) ≡ with_head part (items_of part page ++ more)
 some_head part [] more some = absurd (some refl)
 some_head part (l ∷ ls) more some = refl
 
-pub some_page : (part : Part) (page : List Line) → page ≢ [] → window_items part (items_of part page) ≡ with_head part (items_of part page)
+pub some_page : (part : SheetPart) (page : List Line) → page ≢ [] → window_items part (items_of part page) ≡ with_head part (items_of part page)
 some_page part [] some = absurd (some refl)
 some_page part (l ∷ ls) some = refl
 
-pub some_items : (part : Part) (day : ℕ) (ps : List PledgeValue) (page : List Line) → page ≢ [] → IsLinesPage part day 0 ps page
+pub some_items : (part : SheetPart) (day : ℕ) (ps : List PledgeValue) (page : List Line) → page ≢ [] → IsLinesPage part day 0 ps page
     → window_items part (part_items part day ps) ≡ with_head part (part_items part day ps)
 some_items part day ps page some told =
     let is : part_items part day ps ≡ items_of part page ++ items_past part day (page_end (λ (l : Line). l.number) 0 page) ps = told.goes_on in

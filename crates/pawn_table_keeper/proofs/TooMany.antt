@@ -6,7 +6,7 @@ use Rattle.pawn_pledge.specs.Limits.{most_extensions}
 use Rattle.pawn_pledge.specs.Replayable.{IsReachable}
 use Rattle.pawn_table_keeper.specs.Common.{get, cons_option, filter_map, PledgeValue, BookValue, pledge_in, Host}
 use Rattle.pawn_table_keeper.specs.Common.{entries_of, extensions_of, pledges_of, part_item, part_items}
-use Rattle.pawn_table_keeper.specs.Common.{IsSoundAt, IsUnsoundAt, Part}
+use Rattle.pawn_table_keeper.specs.Common.{IsSoundAt, IsUnsoundAt, SheetPart}
 use Rattle.std.proofs.Common.{◌≡◌, ◌≤◌, ◌<◌, ℕ, suc, List, [], ◌∷◌, length, Option, Some, None, refl, ap, arith}
 
 -- of a pledge, where the rules bound the list of each that can stand
@@ -47,6 +47,6 @@ shown_at_most f (x ∷ xs) = let rest = shown_at_most f xs in one (f x) (filter_
   one None ys n few = omega (arith, few)
   one (Some y) ys n few = omega (arith, few)
 
-pub too_many_lines : (h : Host) (b day : ℕ) (part : Part) → most_pledges < length (part_items part day (pledges_of (get h.books b))) → IsUnsoundAt b h
+pub too_many_lines : (h : Host) (b day : ℕ) (part : SheetPart) → most_pledges < length (part_items part day (pledges_of (get h.books b))) → IsUnsoundAt b h
 too_many_lines h b day part above = let few = shown_at_most (part_item part day) (pledges_of (get h.books b)) in
     too_many_pledges h b (omega (arith, above, few))

@@ -5,7 +5,7 @@ pub use Rattle.pawn_book.specs.Sheet.{windows_sheet, with_head}
 pub use Rattle.pawn_book.specs.Visits.{Front, Handed, HandsOver, IsShare, Visits, Whole, call_end}
 pub use Rattle.pawn_book.specs.declared.visit.Flow.{Flow}
 pub use Rattle.pawn_book.specs.declared.visit.Flow.TheVariants.{Go, Stop}
-pub use Rattle.pawn_tables.specs.Common.{Database, Held, IsSoundAt, IsUnsoundAt, KeepError, Keeping, NoRecord, Part}
+pub use Rattle.pawn_tables.specs.Common.{Database, Held, IsSoundAt, IsUnsoundAt, KeepError, Keeping, NoRecord, SheetPart}
 pub use Rattle.pawn_tables.specs.Common.{SheetItem, cons_option, part_item, part_items, pledges_of, BookValue}
 pub use Rattle.pawn_tables.specs.Common.{HasCleanDisk, Host, PledgeValue, State, entries_of, extensions_of, get}
 pub use Rattle.pawn_tables.specs.Common.{list_any, pledge_in, state}

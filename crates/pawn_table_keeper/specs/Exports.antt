@@ -2,7 +2,7 @@
 use Rattle.pawn_book.specs.Items.{items_of_pledge}
 use Rattle.pawn_book.specs.declared.items.RowItem.{RowItem}
 use Rattle.pawn_table_keeper.specs.Common.{BookValue, PledgeValue, pledge_in}
-use Rattle.pawn_tables.specs.Kinds.{IsKindPage, own_items, rows_of_kind}
+use Rattle.pawn_tables.specs.Kinds.{IsKindPage, own_items, kind_rows_if_any}
 use Rattle.pawn_tables.specs.declared.kinds.RowKind.{RowKind}
 use Rattle.pawn_tables.specs.declared.ranges.KindPage.{KindPage}
 use Rattle.pawn_base.specs.Lists.{Each}
@@ -10,15 +10,15 @@ use Rattle.std.specs.Prelude.{ℕ, zero, suc, ◌+◌, ◌≡◌, if◌then◌el
 
 -- the rows of the page's kind of pledge n: those of the page if it is whole so far, or else those of the book
 abbrev pub page_or_book_rows : ℕ → Option BookValue → KindPage → List RowItem
-page_or_book_rows n book page = if nat_le n page.whole then own_items n page.items.items else rows_of_kind page.kind (pledge_in book n)
+page_or_book_rows n book page = if nat_le n page.whole then own_items n page.items.items else kind_rows_if_any page.kind (pledge_in book n)
 
 -- the rows of the pledge of a number, if there is one
-abbrev pub rows_of_number : Option PledgeValue → List RowItem
-rows_of_number None = []
-rows_of_number (Some p) = items_of_pledge p
+abbrev pub pledge_rows_if_any : Option PledgeValue → List RowItem
+pledge_rows_if_any None = []
+pledge_rows_if_any (Some p) = items_of_pledge p
 
 abbrev pub number_rows : Option BookValue → ℕ → List RowItem
-number_rows book n = rows_of_number (pledge_in book n)
+number_rows book n = pledge_rows_if_any (pledge_in book n)
 
 -- so many numbers after one
 abbrev pub numbers_from : ℕ → ℕ → List ℕ

@@ -1,4 +1,4 @@
--- What these proofs use from elsewhere: the standard words and lemmas, those of the crates below, and this crate's specs.
+-- What these proofs use from elsewhere: the standard words and lemmas, those of the crates that this one depends on, and this crate's specs.
 pub use Rattle.one_table.proofs.Lent.{lent_then}
 pub use Rattle.one_table.proofs.OneTable.{around, few_of_table, first_of_table, gathered, over_table, passes, shows_of}
 pub use Rattle.one_table.proofs.Texts.{Asks, by_column, by_column_down, is_param}

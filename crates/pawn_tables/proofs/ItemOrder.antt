@@ -7,7 +7,7 @@ use Rattle.pawn_tables.proofs.PageLemmas.{last_later, last_some}
 use Rattle.pawn_tables.specs.Common.{AreNumberedFrom, Booking, Each, Entry, Extension, IsAscending, Issued, PledgeValue}
 use Rattle.pawn_tables.specs.Common.{last_element, pledge_from}
 use Rattle.pawn_tables.specs.Entries.{RiseFrom}
-use Rattle.pawn_tables.specs.Kinds.{own_items, row_kind, kind_rows, rows_of_kind, whole_upto}
+use Rattle.pawn_tables.specs.Kinds.{own_items, row_kind, kind_rows, kind_rows_if_any, whole_upto}
 use Rattle.pawn_tables.specs.Pages.{most_page_rows}
 use Rattle.pawn_tables.specs.declared.kinds.RowKind.{RowKind}
 use Rattle.sqlite_trees.proofs.ListLemmas.{all-append, ascending-append}
@@ -171,13 +171,13 @@ module _ (n : ℕ) where
       numbered.1 i)
 
   pub items_of_one : (kind : RowKind) (k : ℕ) (ps : List PledgeValue) → AreNumberedFrom k ps
-      → own_items n (all_of_kind kind ps) ≡ rows_of_kind kind (pledge_from k ps n)
+      → own_items n (all_of_kind kind ps) ≡ kind_rows_if_any kind (pledge_from k ps n)
   items_of_one kind k [] numbered = refl
   items_of_one kind k (p ∷ ps) numbered = filter-append is_of (kind_rows kind p) (all_of_kind kind ps) ∙ go (n == k) refl (items_of_one kind (k + 1) ps
       numbered.1)
     where
-      go : (b : Bool) → (n == k) ≡ b → own_items n (all_of_kind kind ps) ≡ rows_of_kind kind (pledge_from (k + 1) ps n)
-          → own_items n (kind_rows kind p) ++ own_items n (all_of_kind kind ps) ≡ rows_of_kind kind (if b then Some p else pledge_from (k + 1) ps n)
+      go : (b : Bool) → (n == k) ≡ b → own_items n (all_of_kind kind ps) ≡ kind_rows_if_any kind (pledge_from (k + 1) ps n)
+          → own_items n (kind_rows kind p) ++ own_items n (all_of_kind kind ps) ≡ kind_rows_if_any kind (if b then Some p else pledge_from (k + 1) ps n)
       go true is rest = let same : n ≡ k = grind (arith, nat_tests, is) in let at : p.agreement.number ≡ n = numbered.0 ∙ sym same in
           (λ i. all_own kind p at i ++ none_later kind (k + 1) ps (omega (arith, same)) numbered.1 i) ∙ append-nil (kind_rows kind p)
       go false is rest = let at = numbered.0 in

@@ -9,7 +9,7 @@ use Rattle.pawn_tables.proofs.RowsUnderKey.{equals}
 use Rattle.pawn_tables.specs.At.{is_above, is_at}
 use Rattle.pawn_tables.specs.Common.{get, cons_option, list_all, Row, column, Shown, State, PledgeValue, end_of}
 use Rattle.pawn_tables.specs.Common.{Booking, BookingState, Closing, confirmed_count, is_asked, is_confirmed}
-use Rattle.pawn_tables.specs.Common.{is_confirmed_for, Host, pledges_of, part_item, part_items, Part, SheetItem}
+use Rattle.pawn_tables.specs.Common.{is_confirmed_for, Host, pledges_of, part_item, part_items, SheetPart, SheetItem}
 use Rattle.pawn_tables.specs.Common.{Confirmed}
 use Rattle.pawn_tables.specs.Heads.{number_cells}
 use Rattle.pawn_tables.specs.Lines.{asked_cells, asked_line, confirmed_line, ends_line, item_of, line_cells}
@@ -24,7 +24,7 @@ use Rattle.std.proofs.Common.{true, false, cond, ◌&&◌, Option, Some, None, r
 use Rattle.std.proofs.Math.Bool.{and-true, and_assoc}
 use Rattle.std.proofs.lemmas.List.Recursion.{is_count_by}
 use Rattle.pawn_pledge.specs.declared.record.BookingState.TheVariants as state_is
-use Rattle.pawn_book.specs.declared.sheet.Part.TheVariants as part_of
+use Rattle.pawn_book.specs.declared.sheet.SheetPart.TheVariants as part_of
 use Rattle.pawn_tables.proofs.ReadTexts as text
 use Rattle.pawn_tables.proofs.BookReads as books
 
@@ -128,8 +128,9 @@ confirmed_items ps day window =
     go items i false = refl
 
 -- the lines of all pledges are counted
-lines_counted : {A : Type 0} (part : Part) (day : ℕ) (tell : PledgeValue → Option A) (line : A → Line) → ((p : PledgeValue) → part_item part day p ≡ option_map
-    (λ a. item_of part (line a)) (tell p)) → ((p : PledgeValue) (a : A) → tell p ≡ Some a → (line a).number ≡ number_in_book p) → (ps : List PledgeValue)
+lines_counted : {A : Type 0} (part : SheetPart) (day : ℕ) (tell : PledgeValue → Option A) (line : A → Line) → ((p : PledgeValue)
+    → part_item part day p ≡ option_map (λ a. item_of part (line a)) (tell p))
+    → ((p : PledgeValue) (a : A) → tell p ≡ Some a → (line a).number ≡ number_in_book p) → (ps : List PledgeValue)
     → length (filter_map tell (filter (λ (p : PledgeValue). true) ps)) ≡ length (part_items part day ps)
 lines_counted part day tell line says numbers ps = ap (λ qs. length (filter_map tell qs)) (all_kept ps)
     ∙ sym (ap length (items_are part day tell line says numbers ps) ∙ length-map _ _)
@@ -196,7 +197,7 @@ ends_shown b day old new h rows st shown =
 -- ---- a page
 
 -- the rows of the first lines
-lines_told : {A : Type 0} (part : Part) (line : A → Line) (as' : List A)
+lines_told : {A : Type 0} (part : SheetPart) (line : A → Line) (as' : List A)
     → take most_page_rows (map (λ a. line_cells part (line a)) as') ≡ map (line_cells part) (take most_page_rows (map line as'))
 lines_told part line as' = ap (take most_page_rows) (sym (map-map (line_cells part) line as')) ∙ take-map (line_cells part) most_page_rows (map line as')
 

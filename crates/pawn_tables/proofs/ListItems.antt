@@ -18,7 +18,7 @@ use Rattle.pawn_tables.specs.Common.{Database, KeepError, NoRecord}
 use Rattle.pawn_tables.specs.Finding.{Finds}
 use Rattle.pawn_tables.specs.Entries.{IsEntryDecodable, RiseFrom, entries_from}
 use Rattle.pawn_tables.specs.Kinds.{CanBeRead, IsItemDecodable, IsListPage, IsRowOf, cells_of, item_end, left_of_kind}
-use Rattle.pawn_tables.specs.Kinds.{list_left, rows_of_kind}
+use Rattle.pawn_tables.specs.Kinds.{list_left, kind_rows_if_any}
 use Rattle.pawn_tables.specs.Pages.{most_page_rows}
 use Rattle.pawn_tables.specs.Places.{page_behind}
 use Rattle.pawn_tables.specs.Rows.{entry_cells, extension_cells, number, placed_from, secret_cells}
@@ -87,7 +87,7 @@ entry_step n s es rise x more are = go (entries_from s es) refl are where
 -- ---- a page of a list, where the tables stand for a host
 
 -- from the first place on, all rows of the kind are left
-pub all_left : (kind : RowKind) (o : Option PledgeValue) → left_of_kind kind 0 o ≡ rows_of_kind kind o
+pub all_left : (kind : RowKind) (o : Option PledgeValue) → left_of_kind kind 0 o ≡ kind_rows_if_any kind o
 all_left kind None = refl
 all_left RowKind.Pledge (Some p) = refl
 all_left RowKind.Secret (Some p) = refl

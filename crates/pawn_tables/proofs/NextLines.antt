@@ -4,7 +4,7 @@ use Rattle.pawn_tables.proofs.PageLemmas.{is_page, map_each, page_as, take_each}
 use Rattle.pawn_tables.proofs.SoundBooks.{unsound_book}
 use Rattle.pawn_tables.proofs.StatementFinds.{found_as}
 use Rattle.pawn_tables.specs.Common.{get, cons_option, IsNumber, PledgeValue, Each, BookValue, Host, pledges_of}
-use Rattle.pawn_tables.specs.Common.{AreNumberedFrom, part_item, part_items, IsUnsoundAt, KeepError, Part, SheetItem}
+use Rattle.pawn_tables.specs.Common.{AreNumberedFrom, part_item, part_items, IsUnsoundAt, KeepError, SheetPart, SheetItem}
 use Rattle.pawn_tables.specs.Finding.{Finds, IsRead}
 use Rattle.pawn_tables.specs.Lines.{IsLineOf, IsLinesPage, item_of, items_past}
 use Rattle.pawn_tables.specs.Pages.{most_page_rows}
@@ -48,7 +48,7 @@ drop-above (suc n) k m (p ∷ ps) numbered is = let at = numbered.0 in
 drop-first : (n : ℕ) (ps : List PledgeValue) → AreNumberedFrom 1 ps → drop n ps ≡ above n ps
 drop-first n ps numbered = drop-above n 1 n ps numbered (omega arith)
 
-module _ {A : Type 0} (part : Part) (day : ℕ) (tell : PledgeValue → Option A) (line : A → Line)
+module _ {A : Type 0} (part : SheetPart) (day : ℕ) (tell : PledgeValue → Option A) (line : A → Line)
     (says : (p : PledgeValue) → part_item part day p ≡ option_map (λ a. item_of part (line a)) (tell p))
     (numbers : (p : PledgeValue) (a : A) → tell p ≡ Some a → (line a).number ≡ number_in_book p) where
   abbrev item : A → SheetItem

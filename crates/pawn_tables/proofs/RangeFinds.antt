@@ -12,7 +12,7 @@ use Rattle.pawn_tables.specs.Common.{AreWords, BookValue, Booking, Each, Entry, 
 use Rattle.pawn_tables.specs.Common.{IsNumber, IsSoundBook, IsUnsoundAt, Issued, PledgeValue, State, get, pledge_from, pledge_in}
 use Rattle.pawn_tables.specs.Common.{pledges_of}
 use Rattle.pawn_tables.specs.Entries.{IsEntryDecodable}
-use Rattle.pawn_tables.specs.Kinds.{CanBeRead, IsItemDecodable, IsRowOf, own_items, row_kind, kind_rows, rows_of_kind}
+use Rattle.pawn_tables.specs.Kinds.{CanBeRead, IsItemDecodable, IsRowOf, own_items, row_kind, kind_rows, kind_rows_if_any}
 use Rattle.pawn_tables.specs.Kinds.{whole_upto}
 use Rattle.pawn_tables.specs.Pages.{most_page_rows}
 use Rattle.pawn_tables.specs.PledgeRows.{IsRowDecodable}
@@ -35,14 +35,14 @@ all_within a m (i ∷ is) = go (is_within a m i) refl (all_within a m is) where
 -- a page has all rows of a pledge up to the number to which it is whole
 pub kind_found : (old new : State) (h : Host) (st : StandsFor old.now h) (b a m : ℕ) (kind : RowKind) (n : ℕ) (items : List RowItem) (whole : ℕ)
     → items ≡ take most_page_rows (range_items kind a m (get h.books b)) → whole ≡ whole_upto m items → a < n → n ≤ whole
-    → own_items n items ≡ rows_of_kind kind (pledge_in (get h.books b) n)
+    → own_items n items ≡ kind_rows_if_any kind (pledge_in (get h.books b) n)
 kind_found old new h st b a m kind n items whole are is low high =
     let K = range_items kind a m (get h.books b) in
     let upto : n ≤ whole_upto m (take most_page_rows K) = subst (λ w. n ≤ w) (is ∙ ap (whole_upto m) are) high in
     let within : whole_upto m (take most_page_rows K) ≤ m = cut_within a m K (all_within a m (all_of_kind kind (pledges_of (get h.books b)))) in
     ap (own_items n) are ∙ cut_of kind m n K (range_rises h b a m old new st kind) (omega (arith, low)) upto
     ∙ within_of a m n low (omega (arith, upto, within)) (all_of_kind kind (pledges_of (get h.books b))) ∙ inside (get h.books b) refl where
-      inside : (o : Option BookValue) → get h.books b ≡ o → own_items n (all_of_kind kind (pledges_of o)) ≡ rows_of_kind kind (pledge_in o n)
+      inside : (o : Option BookValue) → get h.books b ≡ o → own_items n (all_of_kind kind (pledges_of o)) ≡ kind_rows_if_any kind (pledge_in o n)
       inside None none = refl
       inside (Some k) at = items_of_one n kind 1 k.pledges (st.ordered b k at).pledges
 

@@ -174,7 +174,7 @@ module _ (h : Host) (storable : AreStorable h) (b n : ℕ) where
 
   pub row_told : (k : BookValue) (p : PledgeValue) → get h.books b ≡ Some k → IsSoundBook k → pledge_from 1 k.pledges n ≡ Some p → IsRowDecodable p
   row_told k p is sound at = let s = reachable_of k n p sound at in
-      let w : HasTextsAndWords p = each_at HasTextsAndWords 1 k.pledges n p sound.written at in
+      let w : HasTextsAndWords p = each_at HasTextsAndWords 1 k.pledges n p sound.texts_and_words at in
       let first = taken_of h storable b n k p is at in let low = s.replayable.last_in in
       let high = s.within.last in
       record {

@@ -14,12 +14,12 @@ pub use Rattle.pawn_book.specs.Limits.{IsCapacity, most_name_bytes}
 pub use Rattle.pawn_book.specs.Rows.{AreNumberedFrom, IsUnder, is_same_text, terms_at}
 pub use Rattle.pawn_book.specs.Sheet.{part_item, part_items}
 pub use Rattle.pawn_book.specs.Sound.{HasUnsoundBook, IsSound, IsSoundAt, IsSoundBook, IsUnsoundAt}
-pub use Rattle.pawn_book.specs.Written.{AreWords, HasTextsAndWords, IsWord}
+pub use Rattle.pawn_book.specs.TextsAndWords.{AreWords, HasTextsAndWords, IsWord}
 pub use Rattle.pawn_book.specs.declared.change.Imported.{Imported}
 pub use Rattle.pawn_book.specs.declared.fault.KeepError.{KeepError}
 pub use Rattle.pawn_book.specs.declared.fault.StoreFault.TheVariants.{Database, NoRecord}
 pub use Rattle.pawn_book.specs.declared.items.PledgeItem.{PledgeItem}
-pub use Rattle.pawn_book.specs.declared.sheet.Part.{Part}
+pub use Rattle.pawn_book.specs.declared.sheet.SheetPart.{SheetPart}
 pub use Rattle.pawn_book.specs.declared.sheet.SheetItem.{SheetItem}
 pub use Rattle.pawn_book.specs.declared.sheet.SheetItem.TheVariants.{Confirmed}
 pub use Rattle.pawn_debt.specs.Due.{DebtValue, credit_of, last_of}

@@ -38,9 +38,9 @@ kind_rows RowKind.Extension p = extension_items p.agreement.number 1 p.extension
 kind_rows RowKind.Booking p = booking_items p.agreement.number p.standing.booking
 
 -- of a pledge, if there is one
-abbrev pub rows_of_kind : RowKind → Option PledgeValue → List RowItem
-rows_of_kind kind None = []
-rows_of_kind kind (Some p) = kind_rows kind p
+abbrev pub kind_rows_if_any : RowKind → Option PledgeValue → List RowItem
+kind_rows_if_any kind None = []
+kind_rows_if_any kind (Some p) = kind_rows kind p
 
 -- ---- a row as the cells that a query returns
 
@@ -132,7 +132,7 @@ own_items n items = filter (λ i. item_number i == n) items
 
 -- the page has all rows of its kind of the pledges above a number, up to the number to which it is whole
 abbrev pub IsKindPage : ℕ → Option BookValue → KindPage → Type 0
-IsKindPage above book page = (n : ℕ) → above < n → n ≤ page.whole → own_items n page.items.items ≡ rows_of_kind page.kind (pledge_in book n)
+IsKindPage above book page = (n : ℕ) → above < n → n ≤ page.whole → own_items n page.items.items ≡ kind_rows_if_any page.kind (pledge_in book n)
 
 -- ---- the pages of one list
 

@@ -1,5 +1,5 @@
 -- The tables of a store, and the schemas that have them.
-use Rattle.one_table.specs.Columns.{filled, blank, refers, keyed, no_schema}
+use Rattle.one_table.specs.Columns.{required, blank, refers, keyed, no_schema}
 use Rattle.pawn_tables.specs.Common.{Schema, Table}
 use Rattle.sqlite.specs.Change.{created}
 use Rattle.sqlite.specs.Kind.TheVariants.{Integer, Text, Blob}
@@ -10,63 +10,63 @@ use Rattle.std.specs.Prelude.{ℕ, [], ◌∷◌, Some, codes}
 -- key of the import that filled it, and how many pledges the import brought.
 abbrev pub books : Table
 books = record (keyed (codes "books")
-    (blank (codes "book") Integer ∷ filled (codes "book_key") Blob ∷ filled (codes "title") Text ∷ filled (codes "capacity") Integer
-    ∷ filled (codes "terms") Integer ∷ filled (codes "pledges") Integer ∷ blank (codes "import_key") Blob ∷ blank (codes "imported") Integer ∷ [])
+    (blank (codes "book") Integer ∷ required (codes "book_key") Blob ∷ required (codes "title") Text ∷ required (codes "capacity") Integer
+    ∷ required (codes "terms") Integer ∷ required (codes "pledges") Integer ∷ blank (codes "import_key") Blob ∷ blank (codes "imported") Integer ∷ [])
     (0 ∷ []) [] []) { key = Some 0 }
 
 -- one row for each version of a book's terms
 abbrev pub terms : Table
 terms = record (keyed (codes "terms")
-    (filled (codes "book") Integer ∷ filled (codes "version") Integer ∷ filled (codes "rate") Integer ∷ filled (codes "keep_before") Integer
-    ∷ filled (codes "keep_after") Integer ∷ [])
+    (required (codes "book") Integer ∷ required (codes "version") Integer ∷ required (codes "rate") Integer ∷ required (codes "keep_before") Integer
+    ∷ required (codes "keep_after") Integer ∷ [])
     (1 ∷ 2 ∷ []) ((1 ∷ 2 ∷ []) ∷ []) (refers (1 ∷ []) (codes "books") ∷ [])) { orders = plain ∷ [] }
 
 -- one row for each pledge: what was agreed, the end of its period, and the single values that can change
 abbrev pub pledges : Table
 pledges = record (keyed (codes "pledges")
-    (filled (codes "book") Integer ∷ filled (codes "number") Integer ∷ filled (codes "ref") Text ∷ filled (codes "article") Text
-    ∷ filled (codes "kind") Integer ∷ filled (codes "credit") Integer ∷ filled (codes "taken") Integer ∷ blank (codes "agreed") Integer
-    ∷ filled (codes "five") Integer ∷ filled (codes "version") Integer ∷ filled (codes "ends") Integer ∷ filled (codes "held") Integer
-    ∷ filled (codes "last_day") Integer ∷ filled (codes "closed") Integer ∷ blank (codes "closed_day") Integer ∷ blank (codes "amount") Integer ∷ [])
+    (required (codes "book") Integer ∷ required (codes "number") Integer ∷ required (codes "ref") Text ∷ required (codes "article") Text
+    ∷ required (codes "kind") Integer ∷ required (codes "credit") Integer ∷ required (codes "taken") Integer ∷ blank (codes "agreed") Integer
+    ∷ required (codes "five") Integer ∷ required (codes "version") Integer ∷ required (codes "ends") Integer ∷ required (codes "held") Integer
+    ∷ required (codes "last_day") Integer ∷ required (codes "closed") Integer ∷ blank (codes "closed_day") Integer ∷ blank (codes "amount") Integer ∷ [])
     (1 ∷ 2 ∷ []) ((1 ∷ 2 ∷ []) ∷ (1 ∷ 3 ∷ []) ∷ []) (refers (1 ∷ 10 ∷ []) (codes "terms") ∷ [])) { orders = plain ∷ plain ∷ [] }
 
 -- one row for each drawing and repayment
 abbrev pub entries : Table
 entries = record (keyed (codes "entries")
-    (filled (codes "book") Integer ∷ filled (codes "number") Integer ∷ filled (codes "seq") Integer ∷ filled (codes "day") Integer
-    ∷ filled (codes "sort") Integer ∷ filled (codes "pence") Integer ∷ [])
+    (required (codes "book") Integer ∷ required (codes "number") Integer ∷ required (codes "seq") Integer ∷ required (codes "day") Integer
+    ∷ required (codes "sort") Integer ∷ required (codes "pence") Integer ∷ [])
     (1 ∷ 2 ∷ 3 ∷ []) ((1 ∷ 2 ∷ 3 ∷ []) ∷ []) (refers (1 ∷ 2 ∷ []) (codes "pledges") ∷ [])) { orders = plain ∷ [] }
 
 -- one row for each secret of a pledge, by its place
 abbrev pub secrets : Table
 secrets = record (keyed (codes "secrets")
-    (filled (codes "book") Integer ∷ filled (codes "number") Integer ∷ filled (codes "place") Integer ∷ filled (codes "day") Integer
-    ∷ filled (codes "sort") Integer ∷ filled (codes "secret") Blob ∷ [])
+    (required (codes "book") Integer ∷ required (codes "number") Integer ∷ required (codes "place") Integer ∷ required (codes "day") Integer
+    ∷ required (codes "sort") Integer ∷ required (codes "secret") Blob ∷ [])
     (1 ∷ 2 ∷ 3 ∷ []) ((1 ∷ 2 ∷ 3 ∷ []) ∷ (1 ∷ 2 ∷ 6 ∷ []) ∷ []) (refers (1 ∷ 2 ∷ []) (codes "pledges") ∷ [])) { orders = plain ∷ plain ∷ [] }
 
 -- at most one row for each pledge: its booking
 abbrev pub bookings : Table
 bookings = record (keyed (codes "bookings")
-    (filled (codes "book") Integer ∷ filled (codes "number") Integer ∷ filled (codes "day") Integer ∷ filled (codes "slot") Integer
-    ∷ filled (codes "state") Integer ∷ [])
+    (required (codes "book") Integer ∷ required (codes "number") Integer ∷ required (codes "day") Integer ∷ required (codes "slot") Integer
+    ∷ required (codes "state") Integer ∷ [])
     (1 ∷ 2 ∷ []) ((1 ∷ 2 ∷ []) ∷ []) (refers (1 ∷ 2 ∷ []) (codes "pledges") ∷ [])) { orders = plain ∷ [] }
 
 -- the notes: the number of the schema, the count of the counted rows, and the limit on them
 abbrev pub meta : Table
-meta = record (keyed (codes "meta") (filled (codes "name") Text ∷ filled (codes "value") Integer ∷ []) (1 ∷ []) ((1 ∷ []) ∷ []) []) { orders = plain ∷ [] }
+meta = record (keyed (codes "meta") (required (codes "name") Text ∷ required (codes "value") Integer ∷ []) (1 ∷ []) ((1 ∷ []) ∷ []) []) { orders = plain ∷ [] }
 
 -- one row for each pledge: the sum owed on the day of the last entry
 abbrev pub totals : Table
 totals = record (keyed (codes "totals")
-    (filled (codes "book") Integer ∷ filled (codes "number") Integer ∷ filled (codes "day") Integer ∷ filled (codes "principal") Integer
-    ∷ filled (codes "charges") Integer ∷ [])
+    (required (codes "book") Integer ∷ required (codes "number") Integer ∷ required (codes "day") Integer ∷ required (codes "principal") Integer
+    ∷ required (codes "charges") Integer ∷ [])
     (1 ∷ 2 ∷ []) ((1 ∷ 2 ∷ []) ∷ []) (refers (1 ∷ 2 ∷ []) (codes "pledges") ∷ [])) { orders = plain ∷ [] }
 
 -- one row for each extension of a pledge's period, by its place
 abbrev pub extensions : Table
 extensions = record (keyed (codes "extensions")
-    (filled (codes "book") Integer ∷ filled (codes "number") Integer ∷ filled (codes "place") Integer ∷ filled (codes "day") Integer
-    ∷ filled (codes "until_day") Integer ∷ [])
+    (required (codes "book") Integer ∷ required (codes "number") Integer ∷ required (codes "place") Integer ∷ required (codes "day") Integer
+    ∷ required (codes "until_day") Integer ∷ [])
     (1 ∷ 2 ∷ 3 ∷ []) ((1 ∷ 2 ∷ 3 ∷ []) ∷ []) (refers (1 ∷ 2 ∷ []) (codes "pledges") ∷ [])) { orders = plain ∷ [] }
 
 -- The trees of the tables, numbered in the order in which they are made. The numbers between are the trees of their

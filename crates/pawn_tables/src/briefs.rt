@@ -29,11 +29,11 @@ pub fn brief_in<S: Alter>(
     ensures lent { Lends S.Store tx.old.conn tx.new.conn (is_ok result) }
 {
     let n = number.get();
-    let Some(told) = stored_pledge_in(tx, alloc, book, n)? else {
+    let Some(stored) = stored_pledge_in(tx, alloc, book, n)? else {
         return Ok(None);
     };
     let list_ends = list_ends_in(tx, book, n)?;
-    let brief = join_brief(number, told.row, told.related, list_ends)?;
+    let brief = join_brief(number, stored.row, stored.related, list_ends)?;
     Ok(Some(brief))
 }
 

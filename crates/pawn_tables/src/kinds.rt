@@ -63,16 +63,16 @@ impl RowKind {
 fn own_item(alloc: Global, number: Number, row: &Row) -> Result<RowItem, KeepError>
     ensures read { (q : PledgeItem) (more : Cells) → q.number ≡ number → row.now ≡ own_cells q ++ more → IsRead result (RowItem.Pledge q) (IsOwnDecodable q) }
 {
-    let told = pledge_row(alloc, row)?;
+    let pledge = pledge_row(alloc, row)?;
     Ok(RowItem::Pledge(PledgeItem {
         number,
-        opening: told.opening,
-        taken: told.taken,
-        version: told.version,
-        ends: told.ends,
-        held: told.held,
-        last: told.last,
-        closing: told.closing,
+        opening: pledge.opening,
+        taken: pledge.taken,
+        version: pledge.version,
+        ends: pledge.ends,
+        held: pledge.held,
+        last: pledge.last,
+        closing: pledge.closing,
     }))
 }
 

@@ -9,28 +9,32 @@ ghost use Rattle.std.specs.Prelude.{◌≡◌, ℕ, List, map, ⊤};
 use crate::cells::number_at;
 use crate::heads::number_of;
 use crate::line::Line;
-use pawn_book::{KeepError, Part};
+use pawn_book::{KeepError, SheetPart};
 use pawn_debt::Rows;
 use sqlite::Row;
 use std::alloc::Global;
 
 /// The line that a row of a part encodes.
-fn line_of(part: Part, row: &Row) -> Result<Line, KeepError>
+fn line_of(part: SheetPart, row: &Row) -> Result<Line, KeepError>
     ensures read { (l : Line) → IsLineOf part l → row.now ≡ line_cells part l → IsRead result l (IsNumber l.number) }
 {
     let number = number_of(number_at(row, 0)?)?;
     match part {
-        Part::Confirmed { window } => Ok(Line { number, window }),
-        Part::Asked => {
+        SheetPart::Confirmed { window } => Ok(Line { number, window }),
+        SheetPart::Asked => {
             let window = number_at(row, 1)?;
             Ok(Line { number, window })
         }
-        Part::Ends => Ok(Line { number, window: 0 }),
+        SheetPart::Ends => Ok(Line { number, window: 0 }),
     }
 }
 
 /// The lines that the rows of a part encode, in their order.
-pub(crate) fn read_lines(alloc: Global, part: Part, rows: &[Row]) -> Result<Rows<Line>, KeepError>
+pub(crate) fn read_lines(
+    alloc: Global,
+    part: SheetPart,
+    rows: &[Row],
+) -> Result<Rows<Line>, KeepError>
     ensures read { (ls : List Line) → Each (IsLineOf part) ls → rows.now ≡ map (line_cells part) ls → IsRead result ls (Each (λ l. IsNumber l.number) ls) }
 {
     let mut lines = Rows::new(alloc);

@@ -5,7 +5,7 @@ ghost use Rattle.pawn_tables.specs.Common.{get, pledges_of, part_items, IsUnsoun
 ghost use Rattle.pawn_tables.specs.Finding.{FindsBy};
 ghost use Rattle.pawn_tables.specs.Lines.{IsLinesPage, NamesWindows};
 ghost use Rattle.std.specs.Prelude.{◌≡◌, is_ok, length};
-ghost use Rattle.pawn_book.specs.declared.sheet.Part.TheVariants as part_of;
+ghost use Rattle.pawn_book.specs.declared.sheet.SheetPart.TheVariants as part_of;
 
 use crate::books::confirmed_in;
 use crate::heads::only_count;
@@ -15,7 +15,7 @@ use crate::queries::run_query;
 use crate::texts::{
     COUNT_ASKED, COUNT_ENDS, READ_ASKED_PAGE, READ_CONFIRMED_PAGE, READ_ENDS_PAGE, READ_WINDOWS,
 };
-use pawn_book::{Day, KeepError, Part, StoreFault};
+use pawn_book::{Day, KeepError, SheetPart, StoreFault};
 use pawn_debt::Rows;
 use sqlite::{Alter, Transaction, params};
 use std::alloc::Global;
@@ -26,7 +26,7 @@ pub fn count_in<S: Alter>(
     tx: &mut Transaction<'_, S>,
     book: u32,
     day: Day,
-    part: Part,
+    part: SheetPart,
 ) -> Result<u64, KeepError>
     ensures finds { FindsBy S.Store tx.old.conn tx.new.conn (IsUnsoundAt book) result
         (λ h count. count ≡ length (part_items part day (pledges_of (get h.books book)))) }
@@ -34,12 +34,12 @@ pub fn count_in<S: Alter>(
 {
     let count = day.count();
     match part {
-        Part::Confirmed { window } => confirmed_in(tx, book, day, window),
-        Part::Asked => {
+        SheetPart::Confirmed { window } => confirmed_in(tx, book, day, window),
+        SheetPart::Asked => {
             let asked = run_query(tx, COUNT_ASKED, params![book, count])?;
             only_count(&asked)
         }
-        Part::Ends => {
+        SheetPart::Ends => {
             let ends = run_query(tx, COUNT_ENDS, params![book, count])?;
             only_count(&ends)
         }
@@ -69,7 +69,7 @@ pub fn lines_page<S: Alter>(
     alloc: Global,
     book: u32,
     day: Day,
-    part: Part,
+    part: SheetPart,
     above: u32,
 ) -> Result<Rows<Line>, KeepError>
     ensures finds { FindsBy S.Store tx.old.conn tx.new.conn (IsUnsoundAt book) result
@@ -78,20 +78,20 @@ pub fn lines_page<S: Alter>(
 {
     let day = day.count();
     match part {
-        Part::Confirmed { window } => {
+        SheetPart::Confirmed { window } => {
             let Ok(slot) = u32::try_from(window) else {
                 return Err(KeepError::Store(StoreFault::Database));
             };
             let rows = run_query(tx, READ_CONFIRMED_PAGE, params![book, above, day, slot])?;
-            read_lines(alloc, Part::Confirmed { window }, &rows)
+            read_lines(alloc, SheetPart::Confirmed { window }, &rows)
         }
-        Part::Asked => {
+        SheetPart::Asked => {
             let asked = run_query(tx, READ_ASKED_PAGE, params![book, above, day])?;
-            read_lines(alloc, Part::Asked, &asked)
+            read_lines(alloc, SheetPart::Asked, &asked)
         }
-        Part::Ends => {
+        SheetPart::Ends => {
             let ends = run_query(tx, READ_ENDS_PAGE, params![book, above, day])?;
-            read_lines(alloc, Part::Ends, &ends)
+            read_lines(alloc, SheetPart::Ends, &ends)
         }
     }
 }

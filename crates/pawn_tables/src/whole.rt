@@ -107,10 +107,10 @@ pub fn pledge_of<S: Alter>(
     ensures lent { Lends S.Store tx.old.conn tx.new.conn (is_ok result) }
 {
     let n = number.get();
-    let Some(told) = stored_pledge_in(tx, alloc, book, n)? else {
+    let Some(stored) = stored_pledge_in(tx, alloc, book, n)? else {
         return Ok(None);
     };
     let lists = lists_in(tx, alloc, book, n)?;
-    let pledge = join_pledge(number, told.row, told.related, lists)?;
+    let pledge = join_pledge(number, stored.row, stored.related, lists)?;
     Ok(Some(pledge))
 }

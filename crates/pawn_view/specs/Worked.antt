@@ -1,7 +1,7 @@
 -- Worked examples of statements and of their lines.
 use Rattle.pawn_debt.specs.declared.entry.Kind.TheVariants.{Fixed, Running}
 use Rattle.pawn_debt.specs.declared.entry.Sort.TheVariants.{Draw, Repay}
-use Rattle.pawn_pledge.specs.Worked.{after_telling, large, ring, ring_pledge, small}
+use Rattle.pawn_pledge.specs.Worked.{changed_by, large, ring, ring_pledge, small}
 use Rattle.pawn_terms.specs.Terms.{rates_of}
 use Rattle.pawn_view.specs.Common.{Command, Open, PledgeValue, Redeemed, Sold, date}
 use Rattle.pawn_view.specs.Text.{money, date_text, kind_line, extended_line, held_line, booking_line, closing_line}
@@ -78,15 +78,15 @@ abbrev pub WorkedCharges : Type 0
 WorkedCharges =
     (statement_text (date 2024 3 1) ring_at_interest
     ≡ begun (codes "100.00") ++ codes "inside\nPrincipal 100.00\nCharges 8.00\nOwing 108.00\nHeld no\nBooking none\n")
-    × (statement_text (date 2024 3 1) (after_telling ring_at_interest (date 2024 3 1) (Command.Repay 1 1000))
+    × (statement_text (date 2024 3 1) (changed_by ring_at_interest (date 2024 3 1) (Command.Repay 1 1000))
     ≡ begun (codes "100.00") ++ codes "inside\nPrincipal 98.00\nCharges 0.00\nOwing 98.00\nHeld no\nBooking none\nEntry 1 2024-03-01 repay 10.00\n")
 
 -- statements of a ring that was redeemed or sold, on any later day
 abbrev pub WorkedEndings : Type 0
 WorkedEndings =
-    (statement_text (date 2025 1 1) (after_telling (ring large) (date 2024 8 1) (Command.Redeem large))
+    (statement_text (date 2025 1 1) (changed_by (ring large) (date 2024 8 1) (Command.Redeem large))
     ≡ begun (codes "500.00") ++ codes "redeemed\nPrincipal 500.00\nCharges 0.00\nOwing 500.00\nHeld no\nBooking none\nRedeemed 2024-08-01 paid 500.00\n")
-    × (statement_text (date 2025 1 1) (after_telling (ring large) (date 2024 8 1) (Command.Sell (large + 2345)))
+    × (statement_text (date 2025 1 1) (changed_by (ring large) (date 2024 8 1) (Command.Sell (large + 2345)))
     ≡ begun (codes "500.00") ++ codes "sold\nPrincipal 500.00\nCharges 0.00\nOwing 500.00\nHeld no\nBooking none\n"
     ++ codes "Sold 2024-08-01 net 523.45 surplus 23.45 shortfall 0.00\n")
 

@@ -1,5 +1,5 @@
 -- Worked examples of day's sheets.
-use Rattle.pawn_pledge.specs.Worked.{after_telling, large, ring, ring_extended, small}
+use Rattle.pawn_pledge.specs.Worked.{changed_by, large, ring, ring_extended, small}
 use Rattle.pawn_pledge.specs.declared.command.Decision.TheVariants.{Confirm}
 use Rattle.pawn_pledge.specs.declared.record.Status.TheVariants.{Passed}
 use Rattle.pawn_view.specs.Common.{Asked, AskedHead, Command, Confirmed, Ends, EndsHead, PledgeValue, Window, date}
@@ -13,10 +13,10 @@ numbered number p = record p { agreement = record p.agreement { number = number 
 
 -- a ring whose bearer asked for a visit on 2024-03-04 in a window, and the same ring after the broker confirmed it
 abbrev pub asked_for : ℕ → PledgeValue
-asked_for window = after_telling (ring large) (date 2024 3 1) (Command.AskBooking (date 2024 3 4) window)
+asked_for window = changed_by (ring large) (date 2024 3 1) (Command.AskBooking (date 2024 3 4) window)
 
 abbrev pub confirmed_for : ℕ → PledgeValue
-confirmed_for window = after_telling (asked_for window) (date 2024 3 1) (Command.DecideBooking Confirm)
+confirmed_for window = changed_by (asked_for window) (date 2024 3 1) (Command.DecideBooking Confirm)
 
 -- the line of each kind of item
 abbrev pub WorkedSheetLines : Type 0
@@ -48,8 +48,8 @@ WorkedWindows =
 -- that was redeemed or sold
 abbrev pub WorkedSheetEnds : Type 0
 WorkedSheetEnds =
-    let redeemed = after_telling (ring large) (date 2024 7 31) (Command.Redeem large) in
-    let sold = after_telling (ring large) (date 2024 8 1) (Command.Sell 9000) in
+    let redeemed = changed_by (ring large) (date 2024 7 31) (Command.Redeem large) in
+    let sold = changed_by (ring large) (date 2024 8 1) (Command.Sell 9000) in
     let pledges = ring small ∷ numbered 2 ring_extended ∷ numbered 3 redeemed ∷ numbered 4 sold ∷ numbered 5 (ring large) ∷ [] in
     (status_of (ring small) (date 2024 8 1) ≡ Passed)
     × (day_sheet pledges (date 2024 7 31) ≡ AskedHead 0 ∷ EndsHead 2 ∷ Ends 1 ∷ Ends 5 ∷ [])

@@ -61,16 +61,16 @@ WorkedLengths =
     × (body_length (states_length (codes "+5") ∷ chunked_coding ∷ []) ≡ Err HeadFault.Transfer)
 
 -- a field that states whether the connection closes
-abbrev pub tells_connection : List ℕ → Pair
-tells_connection value = (codes "Connection", value)
+abbrev pub states_connection : List ℕ → Pair
+states_connection value = (codes "Connection", value)
 
 -- a connection closes under HTTP/1.0, and if a field's whole value is `close`
 abbrev pub WorkedConnections : Type 0
 WorkedConnections =
     (closes_by 1 [] ≡ false)
     × (closes_by 0 [] ≡ true)
-    × (closes_by 0 (tells_connection (codes "keep-alive") ∷ []) ≡ true)
-    × (closes_by 1 (tells_connection (codes "CLOSE") ∷ []) ≡ true)
-    × (closes_by 1 (tells_connection (codes "close, te") ∷ []) ≡ false)
-    × (closes_by 1 (tells_connection (codes "te") ∷ (codes "connection", codes "close") ∷ []) ≡ true)
+    × (closes_by 0 (states_connection (codes "keep-alive") ∷ []) ≡ true)
+    × (closes_by 1 (states_connection (codes "CLOSE") ∷ []) ≡ true)
+    × (closes_by 1 (states_connection (codes "close, te") ∷ []) ≡ false)
+    × (closes_by 1 (states_connection (codes "te") ∷ (codes "connection", codes "close") ∷ []) ≡ true)
     × (closes_by 1 ((codes "Host", codes "close") ∷ []) ≡ false)

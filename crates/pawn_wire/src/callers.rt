@@ -76,7 +76,7 @@ fn by_broker(key: Secret, asked: BrokerRequest) -> Asks
     Asks::Whole(Caller::Broker { key, asked })
 }
 
-/// Returns the holder of this key, who asks for this view.
+/// Returns the broker who has this key, and asks for this view.
 fn by_viewer(key: Secret, view: View) -> Asks
     ensures value { result ≡ Asks.Whole (Caller.Viewer key view) }
 {

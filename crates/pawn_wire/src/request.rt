@@ -66,10 +66,7 @@ fn rows(alloc: Global, body: &[u8]) -> Result<ReplayableRows, WireFault>
 fn import_of_rows(key: Secret, import_key: Secret, rows: ReplayableRows) -> Caller
     ensures value { result ≡ Broker key (Import import_key rows) }
 {
-    let asked = BrokerRequest::Import {
-        key: import_key,
-        rows,
-    };
+    let asked = BrokerRequest::Import { import_key, rows };
     Caller::Broker { key, asked }
 }
 

@@ -3,7 +3,7 @@ ghost use Rattle.pawn_table_keeper.specs.Common.{Database, flat_map, get, pledge
 ghost use Rattle.pawn_table_keeper.specs.Exports.{AddsKind, AreKindPages, number_rows, numbers_from, page_or_book_rows};
 ghost use Rattle.pawn_table_keeper.specs.Handing.{Hands, ReadsOfBook};
 ghost use Rattle.pawn_book.specs.Items.{rows_of_pledges};
-ghost use Rattle.pawn_tables.specs.Kinds.{IsKindPage, IsListPage, item_end, rows_of_kind};
+ghost use Rattle.pawn_tables.specs.Kinds.{IsKindPage, IsListPage, item_end, kind_rows_if_any};
 ghost use Rattle.pawn_tables.specs.Pages.{page_end};
 ghost use Rattle.std.specs.Prelude.{◌≡◌, ◌++◌, ◌∷◌, [], IfErr, IfOk, OnOk};
 ghost use Rattle.pawn_book.specs.declared.fault.KeepError.TheVariants as Keeper;
@@ -100,7 +100,7 @@ impl<S: Alter> TableKeep<S> {
         visitor: &mut V,
     ) -> Result<Flow, KeepError>
         ensures hands { Hands S.Store book V.step self.old self.new visitor.old visitor.new result
-            (λ h. rows_of_kind kind (pledge_in (get h.books book) number)) }
+            (λ h. kind_rows_if_any kind (pledge_in (get h.books book) number)) }
     {
         let mut from = 0;
         for turn in 0..MOST_ENTRIES + 1 {

@@ -3,7 +3,7 @@ ghost use Rattle.pawn_table_keeper.specs.Common.{with_head, HandsOver, item_of};
 ghost use Rattle.pawn_tables.specs.Kinds.{own_items};
 ghost use Rattle.std.specs.Prelude.{map};
 
-use pawn_book::{Flow, Part, RowItem, SheetItem, Visitor};
+use pawn_book::{Flow, RowItem, SheetItem, SheetPart, Visitor};
 use pawn_tables::Line;
 
 /// Passes the items to the visitor in order, until it answers `Stop`. Returns the visitor's last answer, or `Go` if
@@ -40,7 +40,11 @@ pub(super) fn hand_items<V: Visitor<RowItem>>(
 }
 
 /// Passes the items of a part's lines to the visitor until it answers `Stop`.
-pub(super) fn hand_lines<V: Visitor<SheetItem>>(part: Part, lines: &[Line], visitor: &mut V) -> Flow
+pub(super) fn hand_lines<V: Visitor<SheetItem>>(
+    part: SheetPart,
+    lines: &[Line],
+    visitor: &mut V,
+) -> Flow
     ensures hands { HandsOver V.step visitor.old (map (item_of part) lines.now) result visitor.new }
 {
     for line in lines {
@@ -55,7 +59,11 @@ pub(super) fn hand_lines<V: Visitor<SheetItem>>(part: Part, lines: &[Line], visi
 
 /// Passes the part's heading, which has the number of the lines, and then the lines' items, until the visitor answers
 /// `Stop`. The caller passes all lines of the part.
-pub(super) fn hand_whole<V: Visitor<SheetItem>>(part: Part, lines: &[Line], visitor: &mut V) -> Flow
+pub(super) fn hand_whole<V: Visitor<SheetItem>>(
+    part: SheetPart,
+    lines: &[Line],
+    visitor: &mut V,
+) -> Flow
     ensures hands { HandsOver V.step visitor.old (with_head part (map (item_of part) lines.now)) result visitor.new }
 {
     let heading = part.heading(lines.len() as u64);

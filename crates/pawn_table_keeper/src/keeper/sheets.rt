@@ -8,7 +8,7 @@ ghost use Rattle.std.specs.Prelude.{◌≡◌, length};
 use super::handing::{hand_lines, hand_whole};
 use super::{TOO_MANY, TableKeep};
 use one_table::know_settled;
-use pawn_book::{Day, Flow, KeepError, MOST_PLEDGES, Number, Part, SheetItem, Visitor};
+use pawn_book::{Day, Flow, KeepError, MOST_PLEDGES, Number, SheetItem, SheetPart, Visitor};
 use pawn_debt::Rows;
 use pawn_pledge::LAST_WINDOW;
 use pawn_tables::{Line, PAGE_ROWS, count_in, lines_page, windows_in};
@@ -16,7 +16,7 @@ use sqlite::Alter;
 
 impl<S: Alter> TableKeep<S> {
     /// How many items a part of a day's sheet has, without its heading.
-    fn count_part(&mut self, book: Number, day: Day, part: Part) -> Result<u64, KeepError>
+    fn count_part(&mut self, book: Number, day: Day, part: SheetPart) -> Result<u64, KeepError>
         ensures states { ReadsOfBook S.Store self.old self.new book result (λ h count. count ≡ length (part_items part day (pledges_of (get h.books book)))) }
     {
         know_settled(&self.conn);
@@ -31,7 +31,7 @@ impl<S: Alter> TableKeep<S> {
         &mut self,
         book: Number,
         day: Day,
-        part: Part,
+        part: SheetPart,
         above: u32,
     ) -> Result<Rows<Line>, KeepError>
         ensures states { ReadsOfBook S.Store self.old self.new book result (λ h page. IsLinesPage part day above (pledges_of (get h.books book)) page) }
@@ -48,7 +48,7 @@ impl<S: Alter> TableKeep<S> {
         &mut self,
         book: Number,
         day: Day,
-        part: Part,
+        part: SheetPart,
         visitor: &mut V,
     ) -> Result<Flow, KeepError>
         ensures hands { Hands S.Store book V.step self.old self.new visitor.old visitor.new result (λ h. part_items part day (pledges_of (get h.books book))) }
@@ -74,7 +74,7 @@ impl<S: Alter> TableKeep<S> {
         &mut self,
         book: Number,
         day: Day,
-        part: Part,
+        part: SheetPart,
         visitor: &mut V,
     ) -> Result<Flow, KeepError>
         ensures hands { Hands S.Store book V.step self.old self.new visitor.old visitor.new result
@@ -94,7 +94,7 @@ impl<S: Alter> TableKeep<S> {
         &mut self,
         book: Number,
         day: Day,
-        part: Part,
+        part: SheetPart,
         visitor: &mut V,
     ) -> Result<Flow, KeepError>
         ensures hands { Hands S.Store book V.step self.old self.new visitor.old visitor.new result
@@ -119,7 +119,7 @@ impl<S: Alter> TableKeep<S> {
         ensures hands { Hands S.Store book V.step self.old self.new visitor.old visitor.new result
             (λ h. window_sheet (pledges_of (get h.books book)) day window) }
     {
-        let part = Part::Confirmed { window };
+        let part = SheetPart::Confirmed { window };
         let page = self.lines_above(book, day, part, 0)?;
         if page.is_empty() {
             return Ok(Flow::Go);
@@ -209,11 +209,11 @@ impl<S: Alter> TableKeep<S> {
             Flow::Go => {}
             Flow::Stop => return Ok(Flow::Stop),
         }
-        match self.hand_headed(book, day, Part::Asked, visitor)? {
+        match self.hand_headed(book, day, SheetPart::Asked, visitor)? {
             Flow::Go => {}
             Flow::Stop => return Ok(Flow::Stop),
         }
-        self.hand_headed(book, day, Part::Ends, visitor)
+        self.hand_headed(book, day, SheetPart::Ends, visitor)
     }
 }
 

@@ -29,11 +29,11 @@ fn rows(alloc: Global) -> Result<ReplayableRows, Fail> {
 /// Returns the answer to an import of the rows into book 7 under a key of the import.
 fn imports(alloc: Global, keep: &mut ListKeep, key: u128) -> Result<Result<Reply, Refusal>, Fail> {
     let (book, day) = (number(7)?, day()?);
-    let (key, operator) = (Secret::of_word(key), Secret::of_word(OPERATOR));
+    let (import_key, operator) = (Secret::of_word(key), Secret::of_word(OPERATOR));
     let rows = rows(alloc)?;
     let caller = Caller::Broker {
         key: Secret::of_word(KEY),
-        asked: BrokerRequest::Import { key, rows },
+        asked: BrokerRequest::Import { import_key, rows },
     };
     let request = Request { book, caller };
     match acted(alloc, keep, operator, &Stamp { day, word: 1 }, &request) {

@@ -15,6 +15,6 @@ returns-clause-sound c =
     subst (λ (ps : List PledgeValue). AreReplayable c.as_slice.result.now ps) (sym pledges)
     (subst (λ (ts : List Rates). AreReplayable ts rows.pledges) (sym terms) r) in
     λ book key sound word. (
-      λ found. sound_filled book key rows sound word c.as_slice-2.ensures.written (there (c.are_replayable.ensures.answer.0 found)),
+      λ found. sound_filled book key rows sound word c.as_slice-2.ensures.texts_and_words (there (c.are_replayable.ensures.answer.0 found)),
       λ filled. c.are_replayable.ensures.answer.1 (back filled.rows),
     )

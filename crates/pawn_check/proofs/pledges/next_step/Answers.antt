@@ -59,7 +59,7 @@ returns-clause-reads g c =
         reachable = c.in_ok-pledge.ensures.reachable;
         under = (both.1 k is).0 c.if-not-under.false;
         reference = (rw (c.agreement-agreement.ensures.value) at (said k is)).0 c.if-not-first.false;
-        written = c.know_written.ensures.written;
+        texts_and_words = c.know_texts_and_words.ensures.texts_and_words;
       },
       low,
       ap (λ (a : Agreement). a.version) agreed,

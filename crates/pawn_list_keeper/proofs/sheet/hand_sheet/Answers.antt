@@ -1,7 +1,7 @@
 use Rattle.pawn_book.proofs.SheetLemmas.{hands_then, hands_stop}
 use Rattle.pawn_list_keeper.specs.Common.{Stop, part_items, windows_sheet, with_head}
 use Rattle.std.proofs.Common.{◌++◌}
-use Rattle.pawn_book.specs.declared.sheet.Part.TheVariants as part
+use Rattle.pawn_book.specs.declared.sheet.SheetPart.TheVariants as part
 use Rattle.pawn_list_keeper.proofs.sheet.hand_sheet.Goals as goal
 
 pub returns-in-Stop : goal.returns-in-Stop

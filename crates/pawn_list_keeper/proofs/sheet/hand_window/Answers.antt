@@ -3,7 +3,7 @@ use Rattle.pawn_list_keeper.proofs.PartLemmas.{length-filter_map, window_none, w
 use Rattle.pawn_list_keeper.specs.Common.{Go, HandsOver, SheetItem, part_item, part_items}
 use Rattle.std.proofs.Common.{◌≡◌, ◌≢◌, ◌∙◌, List, length, sym, subst, arith}
 use Rattle.std.proofs.lemmas.Bool.Decides.{nat_tests}
-use Rattle.pawn_book.specs.declared.sheet.Part.TheVariants as part
+use Rattle.pawn_book.specs.declared.sheet.SheetPart.TheVariants as part
 use Rattle.pawn_list_keeper.proofs.sheet.hand_window.Goals as goal
 
 pub returns-then-count_of-eq0 : goal.returns-then-count_of-eq0

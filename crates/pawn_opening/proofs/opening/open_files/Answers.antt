@@ -23,8 +23,8 @@ returns-in-Ok-prepare-clause-found g c clean = let p = c.in-Ok-prepare.ensures.p
     accepted (image_of g.D.Disk c.args.files) (file_state c.in-Ok.conn) (c.in-Ok.ensures.opened early)
     (as_found c.args.files c.in-Ok.conn (c.in-Ok.ensures.found early)) (file_state c.prepare.new.conn) (p.opens clean)
 
-pub returns-in-Err-prepare-clause-refuses : goal.returns-in-Err-prepare-clause-refuses
-returns-in-Err-prepare-clause-refuses g c clean = let p = c.in-Err-prepare.ensures.prepared in
+pub returns-in-Err-prepare-clause-refused : goal.returns-in-Err-prepare-clause-refused
+returns-in-Err-prepare-clause-refused g c clean = let p = c.in-Err-prepare.ensures.prepared in
     let early : HasCleanDisk (file_state c.in-Ok.conn) =
     let dirt = no_doubt _ clean in let up = p.survives.clean in let past = c.into_store.ensures.quiet.clean in omega (arith, dirt, up, past) in
     inr (refused (image_of g.D.Disk c.args.files) (file_state c.in-Ok.conn) (c.in-Ok.ensures.opened early) (as_found c.args.files c.in-Ok.conn

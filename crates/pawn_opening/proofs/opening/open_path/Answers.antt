@@ -4,8 +4,8 @@ use Rattle.sqlite.specs.Files.{file_state}
 use Rattle.std.proofs.Common.{inl, inr, rules, subst, sym}
 use Rattle.pawn_opening.proofs.opening.open_path.Goals as goal
 
-pub returns-in-Ok-open_files-clause-refuses : goal.returns-in-Ok-open_files-clause-refuses
-returns-in-Ok-open_files-clause-refuses g c = search rules
+pub returns-in-Ok-open_files-clause-refused : goal.returns-in-Ok-open_files-clause-refused
+returns-in-Ok-open_files-clause-refused g c = search rules
 
 pub returns-in-Ok-open_files-clause-blank : goal.returns-in-Ok-open_files-clause-blank
 returns-in-Ok-open_files-clause-blank g c clean blank = let fresh = c.in-Ok-files_at.ensures.fresh in
@@ -20,12 +20,12 @@ returns-in-Ok-open_files-clause-found g c clean = let fresh = c.in-Ok-files_at.e
     subst (λ i. OpensFound i (file_state c.in-Ok-open_files.conn)) (untouched g.S.Start.log g.S.Start.db fresh.0 fresh.1)
     (c.in-Ok-open_files.ensures.found clean)
 
-pub returns-in-Err-open_files-clause-refuses : goal.returns-in-Err-open_files-clause-refuses
-returns-in-Err-open_files-clause-refuses g c = let fresh = c.in-Ok-files_at.ensures.fresh in (
+pub returns-in-Err-open_files-clause-refused : goal.returns-in-Err-open_files-clause-refused
+returns-in-Err-open_files-clause-refused g c = let fresh = c.in-Ok-files_at.ensures.fresh in (
   c.in-Ok-files_at.files,
   fresh.0,
   fresh.1,
-  λ clean. elim (c.in-Err-open_files.ensures.refuses clean) [
+  λ clean. elim (c.in-Err-open_files.ensures.refused clean) [
     | inl fault ↦ inl fault
     | inr refused ↦ inr (subst (λ i. IsRefusedStore i c.args.limit c.in-Err-open_files.why c.in-Err-open_files.left)
         (untouched g.S.Start.log g.S.Start.db fresh.0 fresh.1) refused)

@@ -13,7 +13,7 @@ returns-in-Ok g c = record {
       subst (λ n. LaysOut (state g.S.Store c.args.conn.now) (state g.S.Store n) c.args.limit (Ok tt)) same
       (laid_out (state g.S.Store c.args.conn.now) (state g.S.Store c.commit.new.self.0) (state g.S.Store c.transaction-tx.result.conn.now)
       (state g.S.Store c.make_first_content.new.tx.conn.now) c.args.limit was c.commit.ensures.ended c.in_default.ensures.lent.leaves
-      c.in_default.ensures.filled
+      c.in_default.ensures.made
       c.commit.ensures.survives tables_stand_for_one_host (λ clean. (c.in-Ok.ensures.ok clean).1) (λ now trees left. g.met.S.Store.settled _ trees now left));
 }
 
@@ -24,7 +24,7 @@ returns-in-Err-commit g c = record {
       subst (λ n. LaysOut (state g.S.Store c.args.conn.now) (state g.S.Store n) c.args.limit (Err c.opening_fault-in-Err-commit.result)) same
       (not_committed (state g.S.Store c.args.conn.now) (state g.S.Store c.commit.new.self.0) (state g.S.Store c.transaction-tx.result.conn.now)
       (state g.S.Store c.make_first_content.new.tx.conn.now) c.args.limit was c.commit.ensures.ended c.in_default.ensures.lent.leaves
-      c.in_default.ensures.filled
+      c.in_default.ensures.made
       c.commit.ensures.survives c.opening_fault-in-Err-commit.result c.opening_fault-in-Err-commit.ensures.store c.in-Err-commit.error
       c.in-Err-commit.ensures.err);
 }

@@ -12,6 +12,6 @@ returns-in-Ok-clause-kept g c clean h kept =
     → AreClosedFor g.D.Disk c.in-Ok.files h) c.into_connection.ensures.same c.in-Ok.ensures.kept in
     closed clean h (λ now. subst (λ d. StandsFor d h) (kept.committed now) (kept.stands now))
 
-pub returns-in-Err-clause-refuses : goal.returns-in-Err-clause-refuses
-returns-in-Err-clause-refuses g c =
-    subst (λ conn. IsLeftUnclosed conn c.in-Err.refused.0 c.in-Err.refused.1) c.into_connection.ensures.same c.in-Err.ensures.refuses
+pub returns-in-Err-clause-refused : goal.returns-in-Err-clause-refused
+returns-in-Err-clause-refused g c =
+    subst (λ conn. IsLeftUnclosed conn c.in-Err.refused.0 c.in-Err.refused.1) c.into_connection.ensures.same c.in-Err.ensures.refused

@@ -1,12 +1,12 @@
 use Rattle.pawn_tables.proofs.RowReading.{ap, arith, length, refl, rules, ◌<◌, ◌∙◌, ◌≡◌, IsNumber, line_cells, Line}
 use Rattle.pawn_tables.proofs.RowReading.{always_read, cell_at}
-use Rattle.pawn_tables.specs.Common.{Row, column, Part}
+use Rattle.pawn_tables.specs.Common.{Row, column, SheetPart}
 use Rattle.pawn_tables.specs.Rows.{number}
-use Rattle.pawn_book.specs.declared.sheet.Part.TheVariants as part_of
+use Rattle.pawn_book.specs.declared.sheet.SheetPart.TheVariants as part_of
 use Rattle.pawn_tables.proofs.lines.line_of.Goals as goal
 
 -- the number of a line stands first in its row
-first_cell : (part : Part) (l : Line) (row : Row) → row ≡ line_cells part l → (0 < length row) × (column row 0 ≡ number l.number)
+first_cell : (part : SheetPart) (l : Line) (row : Row) → row ≡ line_cells part l → (0 < length row) × (column row 0 ≡ number l.number)
 first_cell (part_of.Confirmed window) l row is = cell_at 0 is (omega arith) refl
 first_cell part_of.Asked l row is = cell_at 0 is (omega arith) refl
 first_cell part_of.Ends l row is = cell_at 0 is (omega arith) refl

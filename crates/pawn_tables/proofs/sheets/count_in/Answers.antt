@@ -3,7 +3,7 @@ use Rattle.pawn_tables.proofs.ReadTexts.{COUNT_ASKED, COUNT_ENDS, texts}
 use Rattle.pawn_tables.proofs.Reading.{length, ℕ, ◌∙◌, ◌≡◌, get, state, pledges_of, found, found_is}
 use Rattle.pawn_tables.proofs.SoundBooks.{finds_as}
 use Rattle.pawn_tables.specs.Common.{confirmed_count, part_items, IsUnsoundAt, Rests}
-use Rattle.pawn_book.specs.declared.sheet.Part.TheVariants as part_of
+use Rattle.pawn_book.specs.declared.sheet.SheetPart.TheVariants as part_of
 use Rattle.pawn_tables.proofs.sheets.count_in.Goals as goal
 
 pub returns-in-Confirmed-clause-finds : goal.returns-in-Confirmed-clause-finds

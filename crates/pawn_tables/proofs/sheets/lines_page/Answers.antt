@@ -5,7 +5,7 @@ use Rattle.pawn_tables.proofs.NextLines.{lines_found}
 use Rattle.pawn_tables.proofs.ReadTexts.{READ_ASKED_PAGE, READ_CONFIRMED_PAGE, READ_ENDS_PAGE, texts}
 use Rattle.pawn_tables.proofs.Reading.{ap, map, refl, rules, sym, ◌∙◌, ◌≡◌, found}
 use Rattle.pawn_tables.specs.Lines.{asked_line, confirmed_line, ends_line, line_cells}
-use Rattle.pawn_book.specs.declared.sheet.Part.TheVariants as part_of
+use Rattle.pawn_book.specs.declared.sheet.SheetPart.TheVariants as part_of
 use Rattle.pawn_tables.proofs.sheets.lines_page.Goals as goal
 
 pub returns-in_ok-rows-in-Confirmed-clause-finds : goal.returns-in_ok-rows-in-Confirmed-clause-finds

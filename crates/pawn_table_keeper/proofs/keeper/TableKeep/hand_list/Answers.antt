@@ -8,13 +8,13 @@ use Rattle.pawn_table_keeper.specs.Common.{get, pledge_in, Host, Keeping, Reads,
 use Rattle.pawn_table_keeper.specs.Handing.{keeping_of}
 use Rattle.pawn_tables.proofs.Basics.{nat_tests}
 use Rattle.pawn_tables.proofs.ListItems.{all_left}
-use Rattle.pawn_tables.specs.Kinds.{IsListPage, item_end, left_of_kind, rows_of_kind}
+use Rattle.pawn_tables.specs.Kinds.{IsListPage, item_end, left_of_kind, kind_rows_if_any}
 use Rattle.pawn_tables.specs.declared.kinds.RowKind.{RowKind}
 use Rattle.std.proofs.Common.{Err, List, [], ap, arith, length, refl, rules, ℕ, ◌++◌, ◌+◌, ◌<◌, ◌∙◌, ◌≡◌, ◌≤◌, map-id}
 use Rattle.pawn_table_keeper.proofs.keeper.TableKeep.hand_list.Goals as goal
 
 abbrev listed : RowKind → ℕ → ℕ → Host → List RowItem
-listed kind book number h = rows_of_kind kind (pledge_in (get h.books book) number)
+listed kind book number h = kind_rows_if_any kind (pledge_in (get h.books book) number)
 
 abbrev left : RowKind → ℕ → ℕ → ℕ → Host → List RowItem
 left kind book number n h = left_of_kind kind n (pledge_in (get h.books book) number)

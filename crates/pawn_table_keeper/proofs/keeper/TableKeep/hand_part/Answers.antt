@@ -2,7 +2,7 @@ use Rattle.pawn_book.proofs.Reading.{reads_as}
 use Rattle.pawn_book.specs.Limits.{most_pledges}
 use Rattle.pawn_table_keeper.proofs.Handings.{ends_by, fails_at, goes_by, handed_past, stops_by}
 use Rattle.pawn_table_keeper.proofs.TooMany.{too_many_lines}
-use Rattle.pawn_table_keeper.specs.Common.{get, Host, Keeping, Reads, pledges_of, part_items, Part, SheetItem}
+use Rattle.pawn_table_keeper.specs.Common.{get, Host, Keeping, Reads, pledges_of, part_items, SheetPart, SheetItem}
 use Rattle.pawn_table_keeper.specs.Common.{IsLinesPage, item_of, items_past, most_page_rows, page_end}
 use Rattle.pawn_table_keeper.specs.Handing.{keeping_of}
 use Rattle.pawn_tables.proofs.Basics.{nat_tests, length-map}
@@ -10,16 +10,16 @@ use Rattle.pawn_tables.specs.declared.line.Line.{Line}
 use Rattle.std.proofs.Common.{Err, List, [], arith, length, map, refl, rules, ℕ, ◌++◌, ◌<◌, ◌≡◌, ◌≤◌}
 use Rattle.pawn_table_keeper.proofs.keeper.TableKeep.hand_part.Goals as goal
 
-abbrev listed : ℕ → ℕ → Part → Host → List SheetItem
+abbrev listed : ℕ → ℕ → SheetPart → Host → List SheetItem
 listed book day part h = part_items part day (pledges_of (get h.books book))
 
-abbrev left : ℕ → ℕ → Part → ℕ → Host → List SheetItem
+abbrev left : ℕ → ℕ → SheetPart → ℕ → Host → List SheetItem
 left book day part n h = items_past part day n (pledges_of (get h.books book))
 
 abbrev end : ℕ → List Line → ℕ
 end n page = page_end (λ (l : Line). l.number) n page
 
-told : {K : Type 0} {k : Keeping K} {now new : K} (book day : ℕ) (part : Part) (n : ℕ) (page : List Line)
+told : {K : Type 0} {k : Keeping K} {now new : K} (book day : ℕ) (part : SheetPart) (n : ℕ) (page : List Line)
     → Reads k now new (λ h. IsLinesPage part day n (pledges_of (get h.books book)) page) → Reads k now new (λ h. (left book day part n h ≡ map
     (item_of part) page ++ left book day part (end n page) h) × (length page < most_page_rows → left book day part (end n page) h ≡ []))
 told book day part n page read = reads_as read (λ h one. (one.goes_on, one.is_last))

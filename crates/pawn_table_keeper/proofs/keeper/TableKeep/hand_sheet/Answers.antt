@@ -1,15 +1,15 @@
 use Rattle.pawn_table_keeper.proofs.Handings.{hands_ended, hands_then}
-use Rattle.pawn_table_keeper.specs.Common.{get, Host, pledges_of, part_items, windows_sheet, with_head, Part, SheetItem}
+use Rattle.pawn_table_keeper.specs.Common.{get, Host, pledges_of, part_items, windows_sheet, with_head, SheetPart, SheetItem}
 use Rattle.pawn_table_keeper.specs.Common.{Stop}
 use Rattle.pawn_table_keeper.specs.Handing.{keeping_of}
 use Rattle.std.proofs.Common.{Err, List, Ok, refl, rules, ℕ, ◌++◌}
-use Rattle.pawn_book.specs.declared.sheet.Part.TheVariants as part_of
+use Rattle.pawn_book.specs.declared.sheet.SheetPart.TheVariants as part_of
 use Rattle.pawn_table_keeper.proofs.keeper.TableKeep.hand_sheet.Goals as goal
 
 abbrev comes : ℕ → ℕ → Host → List SheetItem
 comes book day h = windows_sheet (pledges_of (get h.books book)) day
 
-abbrev headed : Part → ℕ → ℕ → Host → List SheetItem
+abbrev headed : SheetPart → ℕ → ℕ → Host → List SheetItem
 headed part book day h = with_head part (part_items part day (pledges_of (get h.books book)))
 
 abbrev others : ℕ → ℕ → Host → List SheetItem

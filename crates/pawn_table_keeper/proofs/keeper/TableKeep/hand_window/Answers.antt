@@ -5,7 +5,7 @@ use Rattle.pawn_table_keeper.specs.Common.{IsLinesPage, item_of, most_page_rows}
 use Rattle.pawn_table_keeper.specs.Handing.{keeping_of}
 use Rattle.pawn_tables.proofs.Basics.{nat_tests}
 use Rattle.std.proofs.Common.{Err, Ok, [], ap, arith, length, map, refl, rules, sym, ◌<◌, ◌∙◌, ◌≡◌, ◌≢◌}
-use Rattle.pawn_book.specs.declared.sheet.Part.TheVariants as part_of
+use Rattle.pawn_book.specs.declared.sheet.SheetPart.TheVariants as part_of
 use Rattle.pawn_table_keeper.proofs.keeper.TableKeep.hand_window.Goals as goal
 
 pub returns-in_err-page : goal.returns-in_err-page

@@ -1,11 +1,11 @@
 use Rattle.pawn_book.proofs.SheetLemmas.{hands_one, hands_then, hands_stop}
-use Rattle.pawn_table_keeper.specs.Common.{part_head, with_head, HandsOver, Part, SheetItem, Go, Stop, item_of}
+use Rattle.pawn_table_keeper.specs.Common.{part_head, with_head, HandsOver, SheetPart, SheetItem, Go, Stop, item_of}
 use Rattle.pawn_tables.proofs.Basics.{length-map}
 use Rattle.pawn_tables.specs.declared.line.Line.{Line}
 use Rattle.std.proofs.Common.{List, [], ap, length, map, subst, sym, ◌∙◌, ◌∷◌, ◌≡◌}
 use Rattle.pawn_table_keeper.proofs.keeper.handing.hand_whole.Goals as goal
 
-headed : (part : Part) (lines : List Line) (heading : SheetItem) → heading ≡ part_head part (length lines) → heading ∷ map (item_of part) lines
+headed : (part : SheetPart) (lines : List Line) (heading : SheetItem) → heading ≡ part_head part (length lines) → heading ∷ map (item_of part) lines
     ≡ with_head part (map (item_of part) lines)
 headed part lines heading is = ap (λ i. i ∷ map (item_of part) lines) (is ∙ ap (part_head part) (sym (length-map lines (item_of part))))
 

@@ -5,17 +5,18 @@ use Rattle.pawn_opening.proofs.Gained.{gains_stands}
 use Rattle.pawn_opening.specs.Common.{Schema, State, Error, no_schema, IsLent, with_rows, meta_row, StandsFor}
 use Rattle.pawn_opening.specs.Indexing.{AddsIndexes, AreLacked, GainsIndexes, HasBothIndexes}
 use Rattle.pawn_opening.specs.Laying.{Makes, Notes, no_rows}
-use Rattle.pawn_opening.specs.Opened.{Fills, empty_host}
+use Rattle.pawn_opening.specs.Opened.{MakesFirstContent, empty_host}
 use Rattle.pawn_opening.specs.declared.indexing.Lacking.TheVariants.{Both}
 use Rattle.pawn_tables.specs.Schema.{keep_schema}
 use Rattle.std.proofs.Common.{◌≡◌, ◌++◌, ℕ, true, [], ◌∷◌, codes, Result, OnOk, Ok, Err, Some, refl, ap, subst, ◌∙◌}
 use Rattle.std.proofs.Common.{is_ok}
 
 module _ (a b c d e f : State) (limit : ℕ) (r : Result (Unit {0}) Error) where
-  pub filled : Makes {E = Error} a b (Ok tt) no_schema keep_schema → IsLent a b true → Notes {E = Error} b c (Ok tt) (meta_row (codes "limit") limit)
+  pub content_made : Makes {E = Error} a b (Ok tt) no_schema keep_schema → IsLent a b true → Notes {E = Error} b c (Ok tt) (meta_row (codes "limit") limit)
       → IsLent b c true → Notes {E = Error} c d (Ok tt) (meta_row (codes "rows") 0) → IsLent c d true
-      → Notes {E = Error} d e (Ok tt) (meta_row (codes "schema") 3) → IsLent d e true → AddsIndexes Both e f r → IsLent e f (is_ok r) → Fills a f limit r
-  filled tables part one first two second three third adds fourth clean within st = let clean-e = clean_before e f (is_ok r) fourth clean in
+      → Notes {E = Error} d e (Ok tt) (meta_row (codes "schema") 3) → IsLent d e true → AddsIndexes Both e f r → IsLent e f (is_ok r)
+      → MakesFirstContent a f limit r
+  content_made tables part one first two second three third adds fourth clean within st = let clean-e = clean_before e f (is_ok r) fourth clean in
       let clean-d = clean_before d e true third clean-e in let clean-c = clean_before c d true second clean-d in
       let clean-b = clean_before b c true first clean-c in let made = tables clean-b within st in
       let within-b = part.inside clean-b within refl in let within-c = first.inside clean-c within-b refl in
