@@ -1,5 +1,5 @@
 -- Rows that are read one by one from the keeper: the terms of a book.
-use Rattle.pawn_book.proofs.Accepts.{terms_at_place}
+use Rattle.pawn_book.proofs.Places.{terms_at_place}
 use Rattle.pawn_csv.proofs.Basics.{◌≡◌, ◌∙◌, ℕ, ◌+◌, ◌<◌, zero, suc, List, [], ◌∷◌, ◌++◌, length}
 use Rattle.pawn_csv.proofs.Basics.{take, Option, Some, None, refl, sym, ap, subst, arith, append_assoc}
 use Rattle.pawn_csv.proofs.Basics.{slice_get, unwrap_or, append-nil}

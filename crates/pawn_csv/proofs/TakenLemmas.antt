@@ -176,7 +176,7 @@ run_pledge v m n terms done at_hand p all over at due first within = from p.secr
   c : PledgeColumns
   c = p.columns
 
-  begins : place (Some (begun v m n terms done at_hand)) (Row.Pledge c) ≡ Ok (begun v m n terms (done ++ hand at_hand) (Some (raw_pledge c)))
+  begins : accept (Some (begun v m n terms done at_hand)) (Row.Pledge c) ≡ Ok (begun v m n terms (done ++ hand at_hand) (Some (raw_pledge c)))
   begins = ordered _ (begun v m n terms (done ++ hand at_hand) (Some (raw_pledge c)))
       (and_from ((length terms == m) && may_end at_hand && (c.number == length (done ++ hand at_hand) + 1)) (nat_le c.number n)
       (and_from ((length terms == m) && may_end at_hand) (c.number == length (done ++ hand at_hand) + 1) (and_from (length terms == m) (may_end at_hand)

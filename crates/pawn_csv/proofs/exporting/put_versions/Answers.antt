@@ -1,4 +1,4 @@
-use Rattle.pawn_book.proofs.Accepts.{terms_at_place}
+use Rattle.pawn_book.proofs.Places.{terms_at_place}
 use Rattle.pawn_csv.proofs.Basics.{◌≡◌, ◌<◌, ◌∙◌, ℕ, length, arith, nat_tests, reads_as, reads_then, subst, sym, Err}
 use Rattle.pawn_csv.proofs.Basics.{rules}
 use Rattle.pawn_csv.proofs.CountLemmas.{stands_there, versions_all, versions_front, versions_next}
