@@ -9,8 +9,8 @@ from tests.library.dates import six_months_after, today
 from tests.library.keys import BROKER
 from tests.library.pages.browser import Pages
 from tests.library.pages.steps import (
-    LOST, a_pledge_at_the_counter, ago, agree, an_open_book, book_text, browser, command, entries, fill_book, find,
-    in_short, in_words, main, make_book, no_faults, open_book, part, secret_of, send_taking, take_a_ring,
+    LOST, WRONG_SECRET, a_pledge_at_the_counter, ago, agree, an_open_book, book_text, browser, command, entries, fill_book,
+    find, in_short, in_words, main, make_book, no_faults, open_book, part, secret_of, send_taking, take_a_ring,
     the_book_is_read, unfold,
 )
 from tests.library.waiting import wait_for
@@ -433,6 +433,27 @@ def a_receipt_that_is_scanned_is_in_the_form_that_is_open_already():
         no_faults()
 
 
+def no_receipt_of_another_paper_is_left_in_the_form():
+    """The form has the receipt of the paper that was scanned last, and only if that one is live."""
+    with a_pledge_at_the_counter() as (_, receipt):
+        dead = f"1-{WRONG_SECRET}"
+        for wanted, says, left in (
+            (receipt, "This receipt is live.", receipt), (dead, "This receipt is not live:", ""),
+            (receipt, "This receipt is live.", receipt),
+        ):
+            find(wanted)
+            browser.says(says, "#commands > .notice")
+            typed = browser.run("return document.querySelector('.action[open] [name=receipt]').value")
+            expect(f"the receipt in the form, after {wanted}", typed, left)
+            browser.rests()
+        browser.fill(".action[open] form", receipt=dead)
+        find(receipt)
+        browser.says("This receipt is live.", "#commands > .notice")
+        typed = browser.run("return document.querySelector('.action[open] [name=receipt]').value")
+        expect("the receipt in the place of a mistyped one", typed, receipt)
+        no_faults()
+
+
 def a_hold_bars_redemption_before_it_is_sent():
     """Also where another till put the hold since the pledge was shown."""
     with a_pledge_at_the_counter() as (pages, receipt):
@@ -594,6 +615,7 @@ main(
         a_look_before_a_command_that_fails_is_told,
         what_came_of_an_act_is_told_although_the_book_was_read_meanwhile, terms_are_put_after_a_take_that_wanted_them,
         the_key_is_forgotten, a_receipt_that_is_scanned_is_in_the_form_that_is_open_already,
+        no_receipt_of_another_paper_is_left_in_the_form,
         a_hold_bars_redemption_before_it_is_sent,
         a_renewal_after_which_nothing_can_be_looked_at_is_not_somebody_elses, a_pledge_is_renewed_in_one_step,
         a_renewal_stops_where_the_pledge_was_changed_during_its_question,

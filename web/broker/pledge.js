@@ -304,12 +304,11 @@ class Desk {
       return;
     }
     this.message = null;
-    const details = said.fold && foldOf(byId("commands"), said.fold);
-    if (details) {
-      details.open = true;
-      // A form that was open already has kept its empty field.
-      details.querySelector("[name=receipt]").value ||= this.scanned;
-    }
+    const details = foldOf(byId("commands"), REDEEM);
+    const field = details?.querySelector("[name=receipt]");
+    // The form has the receipt that was found, if it is live: that of another paper is not left in it.
+    if (field) field.value = this.scanned;
+    if (details && said.redeems) details.open = true;
     [this.saidOn, this.ofReceipt] = [today(), said.message];
     tell(this.notice, said.message, said.tone);
     this.notice.focus();
@@ -362,11 +361,11 @@ const overMessage = (closing) => (closing
 
 /** What is said of a live receipt. On a hold, or once the pledge is over, the article is not given back for it. */
 function liveMessage({ status, owed, held, closing }) {
-  if (!isOpen(status)) return { message: overMessage(closing), tone: "bad", fold: null };
+  if (!isOpen(status)) return { message: overMessage(closing), tone: "bad", redeems: false };
   const live = `This receipt is live. ${inPounds(owed.owing)} is owed today.`;
   const barred = `${live} But the pledge is on hold: don’t hand out the article.`;
-  if (held) return { message: barred, tone: "bad", fold: null };
-  return { message: live, tone: "good", fold: REDEEM };
+  if (held) return { message: barred, tone: "bad", redeems: false };
+  return { message: live, tone: "good", redeems: true };
 }
 
 /** Opens the pledge of a receipt, or of the link of its code, and says whether the receipt is live. */
@@ -379,7 +378,7 @@ export async function openReceipt(typed, begun = startOfSearch()) {
   }
   const { sentence, statement, later } = await whyDead(receipt, begun.session);
   if (statement === null) throw new Unreadable(sentence, "wanted", later);
-  const message = { number, message: sentence, tone: "bad", fold: null, later };
+  const message = { number, message: sentence, tone: "bad", redeems: false, later };
   return goTo(number, begun, { statement, paper: null, message });
 }
 
