@@ -39,7 +39,7 @@ class Desk {
   }
 
   /**
-   * `paper` is a receipt that was found live, until another pledge is looked at; `fresh` a statement that was read just
+   * `paper` is a receipt that was found live, until the clerk goes on; `fresh` a statement that was read just
    * before its pledge is shown; `message` what is said of a pledge once it is shown; `drawn` the number whose forms are
    * on the page; `wanted` the number that was asked for last; `sought` the one that the form of the search found;
    * `lostRedemptions`, by their receipts, what was paid by redemptions whose replies were lost; `saidOn` the day on which
@@ -291,6 +291,13 @@ class Desk {
     if (why !== null) tell(this.notice, why, "bad");
   }
 
+  /** Forgets the receipt that was found, and leaves none in the form: its paper may be gone with the customer. */
+  dropReceipt() {
+    this.paper = null;
+    const field = byId("commands").querySelector("[name=receipt]");
+    if (field) field.value = field.defaultValue = "";
+  }
+
   /** Takes away what was said on another day, or of a receipt: it names what was owed then. */
   clearOld() {
     if (this.saidOn !== today() || this.notice.textContent === this.ofReceipt) tell(this.notice, "");
@@ -304,11 +311,12 @@ class Desk {
       return;
     }
     this.message = null;
-    const details = foldOf(byId("commands"), REDEEM);
-    const field = details?.querySelector("[name=receipt]");
-    // The form has the receipt that was found, if it is live: that of another paper is not left in it.
-    if (field) field.value = this.scanned;
-    if (details && said.redeems) details.open = true;
+    const details = said.fold && foldOf(byId("commands"), said.fold);
+    if (details) {
+      details.open = true;
+      // A form that was open already has kept its field.
+      details.querySelector("[name=receipt]").value = this.scanned;
+    }
     [this.saidOn, this.ofReceipt] = [today(), said.message];
     tell(this.notice, said.message, said.tone);
     this.notice.focus();
@@ -320,6 +328,9 @@ const desk = new Desk();
 
 /** Another till, or the pawnor, may have changed the pledge that is shown. */
 export const refreshPledge = () => desk.refresh();
+
+/** The clerk has gone to another part. */
+export const leavePledge = () => desk.dropReceipt();
 
 export function clearPledge() {
   desk.forget();
@@ -347,6 +358,7 @@ export async function goTo(number, begun, { statement = null, ...more } = {}) {
     if (begun.session === current()) sayElsewhere({ hash, name: `Pledge ${number}`, text: NOT_OPENED, tone: "quiet" });
     return "";
   }
+  if (!more.paper) desk.dropReceipt();
   Object.assign(desk, { fresh: statement, sought: number, ...more });
   if (location.hash === hash) await showPledge(String(number));
   else if (location.hash === "#pledge") location.replace(hash);
@@ -361,11 +373,11 @@ const overMessage = (closing) => (closing
 
 /** What is said of a live receipt. On a hold, or once the pledge is over, the article is not given back for it. */
 function liveMessage({ status, owed, held, closing }) {
-  if (!isOpen(status)) return { message: overMessage(closing), tone: "bad", redeems: false };
+  if (!isOpen(status)) return { message: overMessage(closing), tone: "bad", fold: null };
   const live = `This receipt is live. ${inPounds(owed.owing)} is owed today.`;
   const barred = `${live} But the pledge is on hold: don’t hand out the article.`;
-  if (held) return { message: barred, tone: "bad", redeems: false };
-  return { message: live, tone: "good", redeems: true };
+  if (held) return { message: barred, tone: "bad", fold: null };
+  return { message: live, tone: "good", fold: REDEEM };
 }
 
 /** Opens the pledge of a receipt, or of the link of its code, and says whether the receipt is live. */
@@ -378,7 +390,7 @@ export async function openReceipt(typed, begun = startOfSearch()) {
   }
   const { sentence, statement, later } = await whyDead(receipt, begun.session);
   if (statement === null) throw new Unreadable(sentence, "wanted", later);
-  const message = { number, message: sentence, tone: "bad", redeems: false, later };
+  const message = { number, message: sentence, tone: "bad", fold: null, later };
   return goTo(number, begun, { statement, paper: null, message });
 }
 
@@ -386,6 +398,7 @@ export async function openReceipt(typed, begun = startOfSearch()) {
 export function hidePledge() {
   byId("found").hidden = true;
   byId("new-receipt").replaceChildren();
+  desk.dropReceipt();
   desk.statement = desk.wanted = null;
 }
 
