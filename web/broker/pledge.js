@@ -39,12 +39,12 @@ class Desk {
   }
 
   /**
-   * `paper` is a receipt that was found live, until the clerk goes on; `fresh` a statement that was read just
-   * before its pledge is shown; `message` what is said of a pledge once it is shown; `drawn` the number whose forms are
-   * on the page; `wanted` the number that was asked for last; `sought` the one that the form of the search found;
-   * `lostRedemptions`, by their receipts, what was paid by redemptions whose replies were lost; `saidOn` the day on which
-   * the notice was filled; `ofReceipt` what was said last of a receipt that was found; `readAt` when the statement was
-   * read; `saidOld` what was said where it could not be read again.
+   * `paper` is a receipt that was found live, until the clerk goes on; `fresh` a statement that was read just before
+   * its pledge is shown; `message` what is said of a pledge once it is shown; `drawn` the number whose forms are on the
+   * page; `wanted` the number that was asked for last; `sought` the one that the form of the search found;
+   * `lostRedemptions`, by their receipts, what was paid by redemptions whose replies were lost; `saidOn` the day on
+   * which the notice was filled; `ofReceipt` what was said last of a receipt that was found; `readAt` when the
+   * statement was read; `saidOld` what was said where it could not be read again.
    */
   forget() {
     Object.assign(this, {
