@@ -536,6 +536,26 @@ def pledges_of_two_books_are_told_apart():
         no_faults()
 
 
+def a_paper_of_the_book_that_filled_this_one_is_found():
+    """Its code names the old book, and the pawnor has no other paper."""
+    with Pages() as pages:
+        make_book(pages)
+        receipt = pages.session.open_pledge(1)
+        _, text = pages.session.broker("GET", "/books/7/export")
+        make_book(pages, book=8, terms=False)
+        fill_book(pages, text, book=8)
+        open_book(pages, book=8)
+        the_book_is_read()
+        find(f"{pages.address}/pawn/#book=7&receipt={receipt}")
+        browser.says(
+            "That receipt is of book 7, and this is book 8. If book 8 was filled from a file of book 7, type the receipt "
+            "from the paper, without its link.", "#finding",
+        )
+        find(receipt)
+        browser.says("This receipt is live. £100.00 is owed today.", "#commands")
+        no_faults()
+
+
 def versions_of(pages):
     _, text = pages.session.broker("GET", "/books/7/export")
     return [line for line in text.splitlines() if line.startswith("T,")]
@@ -575,6 +595,24 @@ def terms_are_asked_about_and_added_once():
         browser.press("#new-terms button")
         browser.says("Version 2 has these terms already, so nothing was added.", "#new-terms")
         expect("they are added once", len(versions_of(pages)), 2)
+        no_faults()
+
+
+def terms_that_another_till_replaced_are_added_again():
+    """The list of the page is a copy: its last version is not the last one any more."""
+    with an_open_book() as pages:
+        the_book_is_read()
+        part("terms")
+        browser.says("Version 2", "#next-version")
+        browser.rests()
+        put = {"keep_after": 0, "keep_before": 0, "rate": 9999, "version": 2}
+        expect("terms", pages.session.broker("POST", "/books/7/terms", put), (200, {"version": 2}))
+        browser.fill("#new-terms", rate="0.2667", before="0", after="0")
+        browser.press("#new-terms button")
+        browser.says("They are version 3.", "dialog")
+        browser.press("dialog button", "Add version 3")
+        browser.says("Version 3 is in the book.", "#new-terms")
+        expect("all versions", [line.split(",")[2] for line in versions_of(pages)], ["2667", "9999", "2667"])
         no_faults()
 
 
@@ -794,7 +832,8 @@ main(
         a_pledge_that_changed_is_shown_anew_before_it_is_renewed_or_extended,
         a_sale_of_what_was_redeemed_meanwhile_is_not_asked_about, a_mark_that_is_not_seen_is_not_taken_into_a_pledge,
         a_file_that_a_spreadsheet_saved_in_another_encoding_does_not_fill_the_book, pledges_of_two_books_are_told_apart,
-        terms_are_asked_about_and_added_once, terms_and_a_file_whose_replies_are_lost_say_what_to_do,
+        terms_are_asked_about_and_added_once, terms_that_another_till_replaced_are_added_again,
+        terms_and_a_file_whose_replies_are_lost_say_what_to_do, a_paper_of_the_book_that_filled_this_one_is_found,
         a_question_about_a_pledge_says_its_terms_and_days_of_grace,
         papers_say_which_end_counts, days_that_are_still_to_come_stop_no_list,
         what_is_on_hold_is_marked_where_it_is_pulled_or_sold,

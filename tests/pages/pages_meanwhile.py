@@ -180,6 +180,39 @@ def the_sheets_of_the_next_days_are_read_once():
             expect(f"the sheet in {count} days", asked.count(str(ago(-count))), 1)
 
 
+# The sheet of the last of the next days comes only once it is let go, and after it no sheet of today.
+LAST_SHEET_IS_LATE = """
+const real = window.fetch;
+const gate = new Promise((go) => { window.letGo = go; });
+const never = new Promise(() => {});
+const [first, last] = [...arguments];
+window.late = [];
+window.fetch = async (path, how) => {
+  if (path.endsWith(`/days/${first}`) && window.late.length > 0) { window.late.push(first); await never; }
+  if (!path.endsWith(`/days/${last}`)) return real(path, how);
+  window.late.push(last);
+  await gate;
+  setTimeout(() => { window.come = 1; }, 500);
+  return real(path, how);
+};"""
+
+
+def the_sheet_stays_where_its_part_is_gone_to_again():
+    """The sheets of the next days, which were asked for before, come while the sheet of the day is read anew."""
+    with an_open_book():
+        the_book_is_read()
+        browser.rests()
+        browser.run(LAST_SHEET_IS_LATE, str(ago(0)), str(ago(-7)))
+        part("today")
+        browser.until("return window.late.length === 1", "the last sheet of the first look")
+        part("today")
+        browser.until("return window.late.length === 2", "the first sheet of the second look")
+        browser.run("window.letGo()")
+        browser.until("return window.come", "the last sheet of the first look")
+        browser.says("No visit is confirmed for this day.", "#sheet")
+        no_faults()
+
+
 def a_key_can_be_shown_while_it_is_typed():
     with Pages() as pages:
         make_book(pages)
@@ -839,7 +872,8 @@ main(
         an_act_is_done_on_the_pledge_on_which_it_was_pressed, what_came_of_an_act_is_said_in_another_part,
         a_book_that_was_opened_meanwhile_gets_no_act, a_book_that_was_opened_meanwhile_gets_no_pledge,
         a_form_that_is_half_filled_outlives_a_reload,
-        the_sheets_of_the_next_days_are_read_once, a_key_can_be_shown_while_it_is_typed,
+        the_sheets_of_the_next_days_are_read_once,
+        the_sheet_stays_where_its_part_is_gone_to_again, a_key_can_be_shown_while_it_is_typed,
         a_look_during_an_act_leaves_nothing_that_is_over, the_row_of_parts_stays_where_it_was_moved,
         a_decision_that_another_clerk_overtakes_is_not_reported_as_it_was,
         the_age_of_the_book_is_not_read_out_each_minute, a_reply_that_was_cut_in_its_head_is_a_lost_one,

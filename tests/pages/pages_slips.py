@@ -9,8 +9,8 @@ from tests.library.dates import six_months_after, today
 from tests.library.keys import BROKER
 from tests.library.pages.browser import Pages
 from tests.library.pages.steps import (
-    LOST, a_pledge_at_the_counter, ago, agree, an_open_book, book_text, browser, command, entries, fill_book, find,
-    in_short, in_words, main, make_book, no_faults, open_book, part, secret_of, send_taking, take_a_ring,
+    LOST, WRONG_SECRET, a_pledge_at_the_counter, ago, agree, an_open_book, book_text, browser, command, entries, fill_book,
+    find, in_short, in_words, main, make_book, no_faults, open_book, part, secret_of, send_taking, take_a_ring,
     the_book_is_read, unfold,
 )
 from tests.library.waiting import wait_for
@@ -433,6 +433,55 @@ def a_receipt_that_is_scanned_is_in_the_form_that_is_open_already():
         no_faults()
 
 
+def receipt_in_the_form(wanted, when):
+    value = "document.querySelector('.action[open] [name=receipt]')?.value"
+    browser.until(f"return {value} === arguments[0]", f"{wanted or 'no receipt'} in the form, {when}", wanted)
+
+
+def no_receipt_of_another_paper_is_left_in_the_form():
+    """The form has the receipt of the paper that was scanned last, and only if that one is live."""
+    with a_pledge_at_the_counter() as (_, receipt):
+        dead = f"1-{WRONG_SECRET}"
+        for wanted, says, left in (
+            (receipt, "This receipt is live.", receipt), (dead, "This receipt is not live:", ""),
+            (receipt, "This receipt is live.", receipt),
+        ):
+            find(wanted)
+            browser.says(says, "#commands > .notice")
+            receipt_in_the_form(left, f"after {wanted}")
+            browser.rests()
+        browser.fill(".action[open] form", receipt=dead)
+        find(receipt)
+        receipt_in_the_form(receipt, "in the place of a mistyped one")
+        no_faults()
+
+
+def go_by_a_list():
+    part("due")
+    browser.run("location.hash = '#pledge=1'")
+
+
+def find_where_it_is_shown():
+    browser.fill("#finding", wanted="1")
+    browser.press("#finding button")
+
+
+def a_receipt_is_not_left_in_the_form_for_the_next_customer():
+    """Who comes without a paper would be given the article for the paper of the one before."""
+    with a_pledge_at_the_counter() as (_, receipt):
+        the_book_is_read()
+        for comes_back in (go_by_a_list, find_where_it_is_shown, lambda: find("A1")):
+            find(receipt)
+            receipt_in_the_form(receipt, "as it was scanned")
+            browser.rests()
+            comes_back()
+            browser.says("£100.00 owed today", "#statement")
+            browser.rests()
+            left = browser.run("return document.querySelector('[name=receipt]').value")
+            expect(f"what is left, after {comes_back.__name__}", left, "")
+        no_faults()
+
+
 def a_hold_bars_redemption_before_it_is_sent():
     """Also where another till put the hold since the pledge was shown."""
     with a_pledge_at_the_counter() as (pages, receipt):
@@ -594,6 +643,7 @@ main(
         a_look_before_a_command_that_fails_is_told,
         what_came_of_an_act_is_told_although_the_book_was_read_meanwhile, terms_are_put_after_a_take_that_wanted_them,
         the_key_is_forgotten, a_receipt_that_is_scanned_is_in_the_form_that_is_open_already,
+        no_receipt_of_another_paper_is_left_in_the_form, a_receipt_is_not_left_in_the_form_for_the_next_customer,
         a_hold_bars_redemption_before_it_is_sent,
         a_renewal_after_which_nothing_can_be_looked_at_is_not_somebody_elses, a_pledge_is_renewed_in_one_step,
         a_renewal_stops_where_the_pledge_was_changed_during_its_question,

@@ -645,6 +645,22 @@ def what_is_scanned_while_a_day_or_a_box_has_the_focus_is_found():
         no_faults()
 
 
+def what_is_scanned_while_a_question_is_open_does_not_answer_it():
+    """A scanner ends with Enter, which presses the button that has the focus."""
+    with a_pledge_at_the_counter() as (pages, receipt):
+        end = six_months_after(today())
+        for answer in ("button.grave", "button.plain"):
+            command("Extend the period", "Extend", until=str(end + datetime.timedelta(days=30)))
+            browser.element(f"dialog {answer}")
+            browser.run("document.querySelector(arguments[0]).focus()", f"dialog {answer}")
+            browser.keys(receipt + "\ue007")
+            browser.says("Extend the period?", "dialog")
+            browser.press("dialog button", "Not now")
+            browser.says("Nothing was done.", "#commands")
+        expect("the end", f"Ends {end}\n" in pages.session.broker("GET", "/books/7/pledges/1")[1], True)
+        no_faults()
+
+
 def what_is_scanned_into_the_form_of_a_new_pledge_is_found():
     """The form is not complete, so the browser would ask for its other fields, and the receipt would stay in it."""
     with a_pledge_at_the_counter() as (_, receipt):
@@ -807,6 +823,7 @@ main(
         what_is_scanned_after_a_search_that_failed_takes_its_place,
         what_is_scanned_into_the_form_of_a_new_pledge_is_found,
         what_is_scanned_while_a_day_or_a_box_has_the_focus_is_found,
+        what_is_scanned_while_a_question_is_open_does_not_answer_it,
         a_link_that_comes_after_its_receipt_says_what_it_says, a_pawnor_who_comes_back_sees_what_the_shop_decided,
         what_an_act_reports_stays_where_one_came_back_during_its_question, the_pledge_of_a_link_is_the_one_that_is_seen,
         a_visit_to_an_article_that_is_sold_is_not_asked_about,

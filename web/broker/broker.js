@@ -15,7 +15,7 @@ import { clearElsewhere, setUpElsewhere } from "./elsewhere.js";
 import { setUpFiles } from "./files.js";
 import { clearChoices, setUpFinding } from "./find.js";
 import { ledger } from "./ledger.js";
-import { clearPledge, redrawPledge, refreshPledge, showPledge } from "./pledge.js";
+import { clearPledge, leavePledge, redrawPledge, refreshPledge, showPledge } from "./pledge.js";
 import { setUpScanner } from "./scanner.js";
 import { askBook, begin, current, end, keepSession } from "./session.js";
 import { keepShop, refuseReceipts, setUpShop, shop, showShop } from "./shop.js";
@@ -108,7 +108,10 @@ async function showPart({ focus }) {
   mark(name);
   const heading = putTitle({ name, detail });
   if (focus) heading.focus();
-  if (name !== "pledge") clearChoices();
+  if (name !== "pledge") {
+    clearChoices();
+    leavePledge();
+  }
   for (const part of EMPTIED) if (part !== name) byId(`${part}-lists`).replaceChildren();
   refreshed = Date.now();
   await PARTS[name](detail);

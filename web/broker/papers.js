@@ -124,7 +124,8 @@ export function readReceipt(typed, field, none) {
   if (receipts.length !== 1) throw new Unreadable(why ? `That is no whole receipt. ${why}` : none, field);
   const [{ book, receipt }] = receipts;
   if (book && book !== current().book) throw new Unreadable(
-    `That receipt is of book ${book}, and this is book ${current().book}.`, field,
+    `That receipt is of book ${book}, and this is book ${current().book}. If book ${current().book} was filled from a `
+      + `file of book ${book}, type the receipt from the paper, without its link.`, field,
   );
   return receipt;
 }

@@ -39,12 +39,12 @@ class Desk {
   }
 
   /**
-   * `paper` is a receipt that was found live, until another pledge is looked at; `fresh` a statement that was read just
-   * before its pledge is shown; `message` what is said of a pledge once it is shown; `drawn` the number whose forms are
-   * on the page; `wanted` the number that was asked for last; `sought` the one that the form of the search found;
-   * `lostRedemptions`, by their receipts, what was paid by redemptions whose replies were lost; `saidOn` the day on which
-   * the notice was filled; `ofReceipt` what was said last of a receipt that was found; `readAt` when the statement was
-   * read; `saidOld` what was said where it could not be read again.
+   * `paper` is a receipt that was found live, until the clerk goes on; `fresh` a statement that was read just before
+   * its pledge is shown; `message` what is said of a pledge once it is shown; `drawn` the number whose forms are on the
+   * page; `wanted` the number that was asked for last; `sought` the one that the form of the search found;
+   * `lostRedemptions`, by their receipts, what was paid by redemptions whose replies were lost; `saidOn` the day on
+   * which the notice was filled; `ofReceipt` what was said last of a receipt that was found; `readAt` when the
+   * statement was read; `saidOld` what was said where it could not be read again.
    */
   forget() {
     Object.assign(this, {
@@ -291,6 +291,13 @@ class Desk {
     if (why !== null) tell(this.notice, why, "bad");
   }
 
+  /** Forgets the receipt that was found, and leaves none in the form: its paper may be gone with the customer. */
+  dropReceipt() {
+    this.paper = null;
+    const field = byId("commands").querySelector("[name=receipt]");
+    if (field) field.value = field.defaultValue = "";
+  }
+
   /** Takes away what was said on another day, or of a receipt: it names what was owed then. */
   clearOld() {
     if (this.saidOn !== today() || this.notice.textContent === this.ofReceipt) tell(this.notice, "");
@@ -307,8 +314,8 @@ class Desk {
     const details = said.fold && foldOf(byId("commands"), said.fold);
     if (details) {
       details.open = true;
-      // A form that was open already has kept its empty field.
-      details.querySelector("[name=receipt]").value ||= this.scanned;
+      // A form that was open already has kept its field.
+      details.querySelector("[name=receipt]").value = this.scanned;
     }
     [this.saidOn, this.ofReceipt] = [today(), said.message];
     tell(this.notice, said.message, said.tone);
@@ -321,6 +328,9 @@ const desk = new Desk();
 
 /** Another till, or the pawnor, may have changed the pledge that is shown. */
 export const refreshPledge = () => desk.refresh();
+
+/** The clerk has gone to another part. */
+export const leavePledge = () => desk.dropReceipt();
 
 export function clearPledge() {
   desk.forget();
@@ -348,6 +358,7 @@ export async function goTo(number, begun, { statement = null, ...more } = {}) {
     if (begun.session === current()) sayElsewhere({ hash, name: `Pledge ${number}`, text: NOT_OPENED, tone: "quiet" });
     return "";
   }
+  if (!more.paper) desk.dropReceipt();
   Object.assign(desk, { fresh: statement, sought: number, ...more });
   if (location.hash === hash) await showPledge(String(number));
   else if (location.hash === "#pledge") location.replace(hash);
@@ -387,6 +398,7 @@ export async function openReceipt(typed, begun = startOfSearch()) {
 export function hidePledge() {
   byId("found").hidden = true;
   byId("new-receipt").replaceChildren();
+  desk.dropReceipt();
   desk.statement = desk.wanted = null;
 }
 

@@ -1,6 +1,7 @@
 /**
  * A scanner types as a keyboard does. What it types while no field for a text has the focus is found, if it looks like
- * a receipt; and so is what it types into the form of a new pledge, where no receipt belongs.
+ * a receipt; and so is what it types into the form of a new pledge, where no receipt belongs. A question that is open is
+ * not answered by the Enter that ends a scan, and nothing is found meanwhile.
  */
 import { byId } from "../shared/dom.js";
 import { isReceiptLike } from "../shared/receipts.js";
@@ -39,8 +40,14 @@ function onTakingKey(event) {
   find(scanned);
 }
 
+/** Finds what was typed beside all fields for a text: a day that was changed by it is put back. */
+function findTyped() {
+  if (before.field.matches("input[type=date]")) put(before.field, before.value);
+  find(typed);
+}
+
 function onKey(event) {
-  if (current() === null || document.querySelector("dialog")) return;
+  if (current() === null) return;
   if (event.target.matches(TEXTS)) {
     onTakingKey(event);
     return;
@@ -52,8 +59,7 @@ function onKey(event) {
   if (event.key !== "Enter") return;
   if (isReceiptLike(typed)) {
     event.preventDefault();
-    if (before.field.matches("input[type=date]")) put(before.field, before.value);
-    find(typed);
+    if (!document.querySelector("dialog")) findTyped();
   }
   typed = "";
 }

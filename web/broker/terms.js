@@ -17,8 +17,6 @@ const CHARGE_PLACES = 6;
 const MOST_RATE = 20_000;
 const MOST_KEEPING = 10_000_000;
 
-let versions = null;
-
 /** A decimal as a whole number of its last place. */
 function readDecimal(text, places, field) {
   const found = new RegExp(`^(\\d{1,4})(?:\\.(\\d{1,${places}}))?$`).exec(text.trim());
@@ -55,9 +53,12 @@ function row({ version, rate, keepBefore, keepAfter }) {
   return labelled(make("tr", {}, ...cells.map((cell) => make("td", {}, cell))), HEADS);
 }
 
-/** Shows the versions that the book has, by the book's head. */
+/** The versions that the book has, by its head as it was read last. */
+const known = () => ledger.head.terms;
+
+/** Shows these versions. */
 function draw() {
-  versions = ledger.head.terms;
+  const versions = known();
   const heads = HEADS.map((head) => make("th", { scope: "col" }, head));
   const table = make(
     "table", { className: "list" }, make("thead", {}, make("tr", {}, ...heads)),
@@ -118,8 +119,10 @@ async function add(fields) {
   const begun = current();
   const terms = readTerms(fields);
   refuseTerms(terms);
-  if (versions === null) await lookFirst(readAnew());
+  // Another till may have added a version since.
+  await lookFirst(readAnew());
   refuseOther(begun);
+  const versions = known();
   if (isSame(versions.at(-1), terms)) {
     return { sentence: `Version ${versions.length} has these terms already, so nothing was added.`, tone: "quiet" };
   }
@@ -129,8 +132,6 @@ async function add(fields) {
   try {
     await askBook("POST", "/terms", { body, harmless: true, begun });
   } catch (fault) {
-    // The versions of the book are read again before the next press.
-    versions = null;
     if (fault instanceof Lost) return { sentence: LOST, tone: "bad" };
     throw fault;
   }
@@ -141,7 +142,6 @@ async function add(fields) {
     await readAnew();
     return done;
   } catch {
-    versions = null;
     return `${done} The list above could not be read anew just now.`;
   }
 }
@@ -153,7 +153,6 @@ export function setUpTerms() {
 
 /** Nothing of one book's terms is left for another. */
 export function clearTerms() {
-  versions = null;
   byId("terms-example").textContent = "";
 }
 

@@ -213,7 +213,8 @@ export async function refreshToday({ isShownRead = false } = {}) {
     if (sheet?.day === day) showAsOld(day);
     return;
   }
-  if (sheet?.day !== day) return;
+  // Where the part was gone to again meanwhile, its sheet is on its way.
+  if (sheet?.day !== day || !sheets.has(day)) return;
   sheet = sheets.get(day);
   noteRead();
   draw();
