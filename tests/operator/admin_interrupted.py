@@ -138,20 +138,19 @@ def another_verb_in_its_place():
         )
         for words in others[:-1]:
             said = it.admin(*words, wanted=1)
-            expect(f"{words}: {said}", "First run it again: `pawnd-admin split main north 8 9`" in said, True)
+            expect(f"{words}: {said}", "first run it again: `pawnd-admin split main north 8 9`" in said, True)
         it.store("north")
         said = it.admin(*others[-1], wanted=1)
-        expect(f"{others[-1]}: {said}", "First run it again: `pawnd-admin split main north 8 9`" in said, True)
+        expect(f"{others[-1]}: {said}", "first run it again: `pawnd-admin split main north 8 9`" in said, True)
         it.admin("restore", "main", "newest")
         it.admin("split", "main", "north", 8, 9)
         expect("the books", (books_in(it.path("main")), books_in(it.path("north"))), ({7}, {8, 9}))
         it.admin("copy", "west")
         begun_and_not_ended(it, "restore-book", 10, "newest", "back")
-        for words in (("remove-book", 10), ("split", "west", "east", 10)):
-            said = it.admin(*words, wanted=1)
-            expect(f"{words}: {said}", "First run it again: `pawnd-admin restore-book 10 newest back`" in said, True)
+        said = it.admin("remove-book", 10, wanted=1)
+        expect(f"a removal: {said}", "first run it again: `pawnd-admin restore-book 10 newest back`" in said, True)
         said = it.admin("restore-book", 10, "newest", "back")
-        expect(f"the store that answers: {said}", "back may have stay" in said, False)
+        expect(f"what it says of the store that answers: {said}", "the store back may have" in said, False)
         for words in (("remove-book", 9), others[-1]):
             it.admin(*words)
         for number in (7, 8, 10):

@@ -211,6 +211,7 @@ def a_lost_second_machine(one, second):
             third.run(restore.replace("east", name))
         third.run(let_in)
         standby.run(remove)
+        expect("a book that left before", third.run("ls /var/backups/pawnd/removed/11-*Z | grep csv").strip(), "book.csv")
         answers_again(one, target="/books/10/pledges/4", key="/root/10.key")
         expect("it goes on there", enter(one, 5, 10, "/root/10.key")[0], 200)
         third.run("pawnd-admin status")
