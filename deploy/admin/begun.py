@@ -33,13 +33,11 @@ def begun_with(store):
 
 
 def stop_if_another_began(command, *stores):
-    """A command that moves or makes books does not begin with a store of one that has begun to move some: that one could
-    not end any more."""
+    """No command begins to move or make books in a store of one that has begun to move some: that one could not end any more."""
     for name, note in begun_notes():
         begun = note.get("command", name)
         if begun != command and not begun.startswith("book ") and {*stores} & {*note.get("stores", ())}:
-            raise Stop(f"another command has begun and not ended. If it is not at work any more, first run it again: "
-                       f"`pawnd-admin {begun}`")
+            raise Stop(f"another command has begun and not ended. If it is not at work any more, first run it again: `pawnd-admin {begun}`")
 
 
 @contextlib.contextmanager

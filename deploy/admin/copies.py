@@ -239,8 +239,7 @@ def room_for_copy(name, wanted, path):
 
 @contextlib.contextmanager
 def copy_aside(name, path, begun, before=None):
-    """A copy of a store without its name, which is expected to hold no less than the copy `before`. What was acknowledged
-    before the time at which it was begun is in it."""
+    """A copy of a store without its name, which is expected to hold no less than the copy `before`."""
     with room_for_copy(name, 2 * size_of_store(path), path) as part:
         copy_served(path, os.path.join(part, "books.db"))
         describe(part, name, begun, before=before)
@@ -273,8 +272,8 @@ def files_aside(name, path):
 
 
 def make_copy(name, path, before=None):
-    """A new copy of a store. The caller holds its lock. The copy is named by the time at which it was begun: to check it
-    takes minutes if the store is large, and what is entered meanwhile is not in it."""
+    """A new copy of a store, named by the time at which it was begun: what is entered while it is checked is not in it. The
+    caller holds the lock of the store."""
     begun = new_time(name)
     try:
         with copy_aside(name, path, begun, before) as part:
