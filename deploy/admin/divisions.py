@@ -227,7 +227,6 @@ def make_store_of_copy(book, new, copy, command, path):
     stop_unless_same(found.books, {book: copy.books[book]}, f"the store {new} has another state of book {book}")
     write_note(path, begun)
     enable(new)
-    services.start(Store(new))
 
 
 # ---- a book that leaves for good
