@@ -32,11 +32,12 @@ def begun_with(store):
     return next((it["command"] for _, it in begun_notes() if store in it.get("stores", ())), None)
 
 
-def stop_if_another_began(path, command):
-    if os.path.exists(path) and read_note(path)["command"] != command:
-        raise Stop(
-            f"an earlier command did not end. First run it again: `pawnd-admin {read_note(path)['command']}`"
-        )
+def stop_if_another_began(command, *stores):
+    """No command begins to move or make books in a store of one that has begun to move some: that one could not end any more."""
+    for name, note in begun_notes():
+        begun = note.get("command", name)
+        if begun != command and not begun.startswith("book ") and {*stores} & {*note.get("stores", ())}:
+            raise Stop(f"another command has begun and not ended. If it is not at work any more, first run it again: `pawnd-admin {begun}`")
 
 
 @contextlib.contextmanager

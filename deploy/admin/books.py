@@ -7,7 +7,7 @@ import asking
 import proxy
 import replicas
 import services
-from begun import begun_file, begun_folder
+from begun import begun_file, begun_folder, stop_if_another_began
 from copies import removed_books
 from files import read_note, replace_whole, write_note
 from locks import alone, alone_with, alone_with_settings
@@ -123,6 +123,7 @@ def make_book(number, where, name, capacity, key_to):
     replicas.stop_if_elsewhere(store, "book")
     words = "book", book, "--store", where, "--name", name, "--capacity", capacity, "--key-to", key_to
     with alone_with(where):
+        stop_if_another_began(shlex.join(map(str, words)), where)
         if not os.path.exists(path) and is_made(book, where, made, key_to):
             return say(f"book {book} ({name}) is in the store {where} already, and nothing was changed")
         with alone_with_settings():

@@ -185,7 +185,7 @@ def copy_served(path, target):
             )
 
 
-def describe(part, name, source=None, books=(), before=None):
+def describe(part, name, made, source=None, books=(), before=None):
     """Checks a copy on a second copy of it, so that the first stays as it was made; compares it with the books of the
     copy that it was made of; and writes down what it holds."""
     path = os.path.join(part, "books.db")
@@ -200,7 +200,7 @@ def describe(part, name, source=None, books=(), before=None):
         stop_unless_same(sums, {book: source.books[book] for book in books}, f"{source.folder}, or what was made of it")
     note = {
         "store": name,
-        "made": utc_now().strftime(TIME),
+        "made": made,
         "counts": counts,
         "bytes": {os.path.basename(it): os.path.getsize(it) for it in files_of_store(path)},
         "books": sums,
@@ -238,11 +238,11 @@ def room_for_copy(name, wanted, path):
 
 
 @contextlib.contextmanager
-def copy_aside(name, path, before=None):
+def copy_aside(name, path, begun, before=None):
     """A copy of a store without its name, which is expected to hold no less than the copy `before`."""
     with room_for_copy(name, 2 * size_of_store(path), path) as part:
         copy_served(path, os.path.join(part, "books.db"))
-        describe(part, name, before=before)
+        describe(part, name, begun, before=before)
         yield part
 
 
@@ -257,7 +257,7 @@ def books_aside(name, source, books, write_more=lambda path: None):
             keep_books(path, books)
         fold(path)
         write_more(path)
-        describe(part, name, source, books)
+        describe(part, name, utc_now().strftime(TIME), source, books)
         yield part
 
 
@@ -272,10 +272,12 @@ def files_aside(name, path):
 
 
 def make_copy(name, path, before=None):
-    """A new copy of a store. The caller holds its lock."""
+    """A new copy of a store, named by the time at which it was begun: what is entered while it is checked is not in it. The
+    caller holds the lock of the store."""
+    begun = new_time(name)
     try:
-        with copy_aside(name, path, before) as part:
-            made = Copy(named(part, new_time(name)))
+        with copy_aside(name, path, begun, before) as part:
+            made = Copy(named(part, begun))
     except NotSound as why:
         # A full disk is no reason to say less of the store.
         with contextlib.suppress(Stop, OSError):

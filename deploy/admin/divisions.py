@@ -80,7 +80,7 @@ class Split:
     def stop_unless_possible(self):
         """What is asked for is possible, or was begun and not ended, or was done."""
         lines, there = proxy.book_lines(), set(contents_of(self.store.path).books)
-        stop_if_another_began(self.path, self.command)
+        stop_if_another_began(self.command, self.store.name, self.new)
         self.is_begun = os.path.exists(self.path)
         in_new = set() if is_empty(self.new) else set(contents_of(Store(self.new).path).books)
         turned = all(lines.get(book, MAIN) == self.new for book in self.books)
@@ -147,14 +147,14 @@ def restore_book(number, said, new):
         raise Stop(f"{meant[0].folder} has no book {book}. `grep -l '\"{book}\":' {COPIES}/*/*/copy.json` lists the copies "
                    "that have it")
     with alone_with(new):
-        stop_if_another_began(path, command)
+        stop_if_another_began(command, new, proxy.store_of(book, new))
         if proxy.store_of(book, new) == new and not os.path.exists(path):
             return tell_that_it_is_back(book, new, meant)
         copy = the_only(book, new, meant)
         with ended_by_itself_alone(path, command):
-            was = turn_to_part(book, new, copy, command, path)
-    say(f"book {book} is in the store {new}, as it was at {copy.made}. Older rows of it that the store {was} may have "
-        "stay there, and nobody reaches them")
+            turn_to_part(book, new, copy, command, path)
+    say(f"book {book} is in the store {new}, as it was at {copy.made}. Rows of it that another store may have stay there, and "
+        "nobody reaches them")
 
 
 def copies_meant(book, said, new):
@@ -204,16 +204,14 @@ def copy_of_begun(path, command):
 
 
 def turn_to_part(book, new, copy, command, path):
-    """Makes the new store unless it was made, and gives it the book's line. Returns the store that had the book."""
-    was = proxy.store_of(book, new)
-    if was != new:
+    """Makes the new store unless it was made, and gives it the book's line."""
+    if proxy.store_of(book, new) != new:
         if not is_empty(new) and set(contents_of(Store(new).path).books) != {book}:
             raise Stop(f"the store {new} has other books already: name a new store")
         make_store_of_copy(book, new, copy, command, path)
     proxy.write_stores()
     proxy.turn({book}, new)
     proxy.reload_nginx()
-    return was
 
 
 def make_store_of_copy(book, new, copy, command, path):
@@ -229,7 +227,6 @@ def make_store_of_copy(book, new, copy, command, path):
     stop_unless_same(found.books, {book: copy.books[book]}, f"the store {new} has another state of book {book}")
     write_note(path, begun)
     enable(new)
-    services.start(Store(new))
 
 
 # ---- a book that leaves for good
@@ -243,6 +240,7 @@ def remove_book(number):
     replicas.stop_if_elsewhere(the_store(proxy.store_of(book)), "remove-book")
     locked = stores_of_removal(book, path)
     with alone_with(*locked, REMOVED):
+        stop_if_another_began(f"remove-book {book}", *locked)
         if stores_of_removal(book, path) <= locked:
             with ended_by_itself_alone(path, f"remove-book {book}"):
                 return remove_alone(book, path, locked)

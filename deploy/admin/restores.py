@@ -48,7 +48,7 @@ def put_back(name, copy):
         begun = new_time(name)
         later = new_time(name, later_than=begun)
         with services.stopped(store), contextlib.ExitStack() as until_replaced:
-            old, mark = what_it_has(store, until_replaced)
+            old, mark = what_it_has(store, begun, until_replaced)
             made = Copy(named(new, later))
             if old:
                 say(f"{named(old, mark + begun)}: what the store {name} had. Remove it when nobody misses anything")
@@ -60,7 +60,7 @@ def put_back(name, copy):
     return made
 
 
-def what_it_has(store, stack):
+def what_it_has(store, begun, stack):
     """A copy of a stopped store without its name, or its files as they are if it is not sound; and how the name begins.
     They are there until the stack ends."""
     if not files_of_store(store.path):
@@ -68,7 +68,7 @@ def what_it_has(store, stack):
     try:
         if not is_plain(store.path):
             raise NotSound(f"{store.path} is missing, or is no plain file")
-        return stack.enter_context(copy_aside(store.name, store.path)), ""
+        return stack.enter_context(copy_aside(store.name, store.path, begun)), ""
     except NotSound as why:
         warn(str(why))
         return stack.enter_context(files_aside(store.name, store.path)), UNSOUND

@@ -103,12 +103,13 @@ def put_file(name, source, locked=None):
 
 
 def enable(name):
-    """The units of a store start now and at each boot."""
+    """The units of a store start now and at each boot. It answers when this returns."""
     run("systemctl", "daemon-reload", fails="systemd did not read its files anew")
     run("systemctl", "unmask", "--runtime", services.unit_of(name), fails=f"the store {name} was not started")
     unit = replicas.unit_of(Store(name)) if Store(name).volume else services.unit_of(name)
     run("systemctl", "enable", "--now", unit, f"pawnd-copy@{name}.timer",
         fails=f"the store {name} was not started. Run the command again when this is mended")
+    services.start(Store(name))
 
 
 def make_empty(name):
@@ -126,7 +127,6 @@ def new_store(name):
         if not files_of_store(store_file(name)):
             make_empty(name)
         enable(name)
-        services.start(store)
         write_stores()
         reload_nginx()
     say(f"the store {name} serves {len(contents_of(store.path).books)} books on {store.address}. Make a book there"

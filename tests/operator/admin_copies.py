@@ -8,14 +8,16 @@ import shutil
 import sqlite3
 import stat
 import subprocess
+import time
 
 from tests.library.checks import Failed, expect
 from tests.library.filled_stores import fill_store
 from tests.library.keys import BROKER
-from tests.library.operator.admin_machine import PACKAGES, Caller, Machine, await_load, load
+from tests.library.operator.admin_machine import ADMIN, PACKAGES, Caller, Machine, await_load, load
 from tests.library.operator.admin_places import row_counts
 from tests.library.packages import main_with
 from tests.library.paths import PROGRAM, TOP
+from tests.library.waiting import wait_for
 
 TIME = "%Y%m%dT%H%M%SZ"
 
@@ -46,6 +48,25 @@ def copies_under_load():
         for caller in callers:
             caller.look_up()
         expect("what commands left", it.leftovers(), [])
+
+
+def entered_while_a_copy_is_checked():
+    """It is not in the copy, which is named by the time at which it was begun: what brokers enter again after a loss."""
+    with Machine() as it:
+        caller = it.book(7, pledges=1)
+        it.write("slow", f'#!/bin/sh\n[ "$1" != check ] || {{ touch {it.place("checked")}; sleep 2; }}\nexec {PROGRAM} "$@"\n', 0o755)
+        running = subprocess.Popen(
+            [ADMIN, "copy", "main"], env={**it.environment, "PAWND": it.place("slow")}, stdin=subprocess.DEVNULL,
+            stdout=subprocess.DEVNULL,
+        )
+        wait_for(lambda: os.path.exists(it.place("checked")), "the check of the copy", 60)
+        entered = time.strftime(TIME, time.gmtime())
+        expect("a repayment meanwhile", caller.repay(), True)
+        expect("the end of the command", running.wait(300), 0)
+        copy = it.newest("main")
+        expect("the rows of the copy", row_counts(os.path.join(copy, "books.db")), {7: 1})
+        expect(f"its time, {copy}, is not later than {entered}", os.path.basename(copy) <= entered, True)
+        expect("the time that is written down", note_of(copy)["made"], os.path.basename(copy))
 
 
 def a_large_store_that_is_written_without_a_pause():
@@ -454,6 +475,7 @@ if __name__ == "__main__":
     main_with(
         PACKAGES,
         copies_under_load,
+        entered_while_a_copy_is_checked,
         a_large_store_that_is_written_without_a_pause,
         a_log_that_is_begun_anew,
         a_copy_without_its_log_is_noticed,

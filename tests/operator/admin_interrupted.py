@@ -1,5 +1,6 @@
 """Verbs of `pawnd-admin` that are ended by Ctrl-C in their middle, and run again. Ctrl-C reaches the verb and the program
-that it runs at that moment. And verbs whose terminal is lost."""
+that it runs at that moment. And verbs whose terminal is lost, and another verb in the place of the repeat of one that has
+begun."""
 import os
 import shlex
 import signal
@@ -111,5 +112,52 @@ def a_lost_terminal():
         expect("what commands left", it.leftovers(), [])
 
 
+def begun_and_not_ended(it, *words):
+    """A verb has turned its lines when nginx refuses its files. They are mended then, and the store is served."""
+    with open(it.place("nginx.conf"), "a") as file:
+        file.write("nonsense;\n")
+    said = it.admin(*words, wanted=1)
+    expect(f"{words}: {said}", "nothing else ends it" in said, True)
+    with open(it.place("nginx.conf")) as file:
+        whole = file.read().removesuffix("nonsense;\n")
+    it.write("nginx.conf", whole)
+
+
+def another_verb_in_its_place():
+    """A verb has begun, and did not end. No other verb that moves or makes books begins with one of its stores: the first
+    one could never end then. When it was run again, they do."""
+    with Machine() as it:
+        it.store("west")
+        callers = {number: it.book(number, pledges=1) for number in (7, 8, 9)}
+        callers[10] = it.book(10, "west", pledges=1)
+        it.admin("copy", "main")
+        begun_and_not_ended(it, "split", "main", "north", 8, 9)
+        others = (
+            ("remove-book", 9), ("restore-book", 8, os.path.basename(it.newest("main")), "east"), ("split", "west", "north", 10),
+            ("split", "main", "east", 7), ("book", 12, "--name", "New Street", "--store", "north", "--key-to", it.place("12")),
+        )
+        for words in others[:-1]:
+            said = it.admin(*words, wanted=1)
+            expect(f"{words}: {said}", "first run it again: `pawnd-admin split main north 8 9`" in said, True)
+        it.store("north")
+        said = it.admin(*others[-1], wanted=1)
+        expect(f"{others[-1]}: {said}", "first run it again: `pawnd-admin split main north 8 9`" in said, True)
+        it.admin("restore", "main", "newest")
+        it.admin("split", "main", "north", 8, 9)
+        expect("the books", (books_in(it.path("main")), books_in(it.path("north"))), ({7}, {8, 9}))
+        it.admin("copy", "west")
+        begun_and_not_ended(it, "restore-book", 10, "newest", "back")
+        said = it.admin("remove-book", 10, wanted=1)
+        expect(f"a removal: {said}", "first run it again: `pawnd-admin restore-book 10 newest back`" in said, True)
+        said = it.admin("restore-book", 10, "newest", "back")
+        expect(f"what it says of the store that answers: {said}", "the store back may have" in said, False)
+        for words in (("remove-book", 9), others[-1]):
+            it.admin(*words)
+        for number in (7, 8, 10):
+            callers[number].repay(), callers[number].look_up()
+        expect("what is wrong", [line for line in it.status()["wrong"] if "has no copy" not in line], [])
+        expect("what commands left", it.leftovers(), [])
+
+
 if __name__ == "__main__":
-    main_with(PACKAGES, a_restore, a_removal, a_split, a_lost_terminal)
+    main_with(PACKAGES, a_restore, a_removal, a_split, a_lost_terminal, another_verb_in_its_place)

@@ -11,7 +11,7 @@ from tests.library.checks import expect, not_tried
 from tests.library.filled_stores import fill_store
 from tests.library.operator.admin_machine import PACKAGES, Machine, await_load, load
 from tests.library.packages import main_with
-from tests.library.paths import TOP
+from tests.library.paths import PROGRAM, TOP
 from tests.library.tables import opened
 
 
@@ -151,7 +151,8 @@ def books_and_lines():
         it.admin_with("split", "main", "north", 7, PLANT="the_new_store_does_not_start", wanted=1)
         expect_wrong(it, "a command did not end: run it again, `pawnd-admin split main north 7`. Until it has ended, north may "
                      "not be served")
-        it.admin("split", "main", "north", 7)
+        it.write("slow", f'#!/bin/sh\n[ "$1" != serve ] || sleep 3\nexec {PROGRAM} "$@"\n', 0o755)
+        it.admin("split", "main", "north", 7, PAWND=it.place("slow"))
         expect_wrong(it)
         it.admin("restore-book", 7, "newest", "south")
         notes = it.status()["notes"]

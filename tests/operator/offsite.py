@@ -1,6 +1,7 @@
 """Copies off the machine by borg, between two Debians that run systemd, by the commands of the documents: a copy is sent
-and counted, the first machine's folder is emptied, an intruder uses its key, the receiver is silent; the first machine is
-installed anew and sends to a new repository; and at last it is lost, and the second serves from what was sent alone."""
+and counted, the first machine's folder is emptied, an intruder uses its key, the receiver is silent, or the sender; the
+first machine is installed anew and sends to a new repository; and at last it is lost, and the second serves from what was
+sent alone."""
 import os
 import re
 import tempfile
@@ -30,6 +31,7 @@ def two_machines_and_a_lost_one():
                 a_copy_is_sent,
                 a_folder_that_was_emptied,
                 a_receiver_that_is_silent,
+                a_sender_that_is_lost,
                 a_receiver_without_room,
                 an_archive_that_is_removed_before_it_was_seen,
                 an_intruder_with_the_key,
@@ -118,6 +120,19 @@ def a_receiver_that_is_silent(one, standby):
     one.run("systemctl reset-failed")
     send(one)
     expect("the next one comes through", len(archives(standby)), 2)
+
+
+def a_sender_that_is_lost(one, standby):
+    """It is silent from one moment on, in the middle of a sending. Its session on the receiving machine ends, and with it the
+    lock on the repository."""
+    before = archives(standby)
+    one.run("echo 'set -a; . /etc/pawnd/offsite.conf; (head -c 4000000 /dev/urandom; sleep 900) | borg create ::lost.1.1 -' "
+            ">/root/sending; systemd-run -q --unit=sending sh /root/sending")
+    standby.until(f"[ -e {REPOSITORY}/lock.exclusive ]", within=120)
+    one.run("systemctl kill -s STOP sending")
+    standby.run("mkdir /root/it; /usr/share/pawnd/offsite/take main /root/it; rm -r /root/it")
+    one.run("systemctl kill -s KILL sending; rm /root/sending; systemctl reset-failed")
+    expect("what was sent before", archives(standby), before)
 
 
 def a_receiver_without_room(one, standby):
