@@ -86,7 +86,7 @@ fn bytes_of(answer: &Answer) -> &[u8] {
 }
 
 /// Checks that the answers of a run are the replies to the turns.
-fn tells_each(rt: &impl Abort, answers: &[Answer]) {
+fn check_each(rt: &impl Abort, answers: &[Answer]) {
     assert_eq!(rt; answers.len(), TURNS.len());
     let mut place = 1usize;
     for (answer, turn) in answers.iter().zip(&TURNS) {
@@ -128,8 +128,8 @@ fn run_in_memory(
 
 /// Checks that both keepers answer the turns with their replies.
 fn both_tell(rt: &impl Abort, alloc: Global, items: &[(Stamp, Vec<u8>)]) -> Result<(), Fail> {
-    tells_each(rt, run_over_list(rt, alloc, items)?.as_slice());
-    tells_each(rt, run_in_memory(rt, alloc, items)?.as_slice());
+    check_each(rt, run_over_list(rt, alloc, items)?.as_slice());
+    check_each(rt, run_in_memory(rt, alloc, items)?.as_slice());
     Ok(())
 }
 

@@ -206,7 +206,8 @@ fn bearer(pledge: u64, word: u128, command: Command) -> Ask {
     }
 }
 
-fn told(n: u64, done: Done) -> Result<Result<Reply, Refusal>, Fail> {
+/// Returns the reply to a command on the pledge of this number.
+fn commanded(n: u64, done: Done) -> Result<Result<Reply, Refusal>, Fail> {
     Ok(Ok(Reply::Commanded {
         number: number(n)?,
         done,
@@ -287,7 +288,7 @@ fn a_store_is_checked_and_counted(rt: HostRuntime) -> Result<(), Fail> {
 
 /// Returns the answer that a repayment of pledge 1 should get.
 fn repaid() -> Result<Result<Reply, Refusal>, Fail> {
-    told(
+    commanded(
         1,
         Done::Entered(Entry {
             seq: 1,
@@ -303,7 +304,7 @@ fn repaid() -> Result<Result<Reply, Refusal>, Fail> {
 #[test]
 fn a_repeat_is_told_to_whoever_passes(rt: HostRuntime) -> Result<(), Fail> {
     let amount = Err(Refusal::Pledge(PledgeRefusal::Debt(DebtFault::BadAmount)));
-    let declared = told(1, Done::Declared(Secret::of_word(99)))?;
+    let declared = commanded(1, Done::Declared(Secret::of_word(99)))?;
     let turns = [
         asked(
             55,
@@ -352,7 +353,7 @@ fn sum_of(keep: &mut ListKeep, left: u32) -> Result<u32, Fail> {
 
 fn booked(n: u64, state: BookingState) -> Result<Result<Reply, Refusal>, Fail> {
     let day = day()?.day();
-    told(
+    commanded(
         n,
         Done::Booked(Booking {
             day,

@@ -98,7 +98,7 @@ fn an_extension_puts_the_end_off(rt: HostRuntime) -> Result<(), Fail> {
 }
 
 /// Checks that a brief has the article, the live secret and the count of the entries.
-fn tells_of_its_pledge(rt: &impl Abort, brief: &Brief) {
+fn check_of_the_ring(rt: &impl Abort, brief: &Brief) {
     let fields = brief.fields();
     assert_eq!(rt; fields.agreement.opening.article.as_str(), "Gold ring");
     assert!(rt; fields.live == Some(Secret::of_word(2)));
@@ -106,12 +106,12 @@ fn tells_of_its_pledge(rt: &impl Abort, brief: &Brief) {
 }
 
 #[test]
-fn a_brief_tells_of_its_pledge(rt: HostRuntime) -> Result<(), Fail> {
-    let told = {
+fn a_brief_is_of_its_pledge(rt: HostRuntime) -> Result<(), Fail> {
+    let brief = {
         let pledge = used(rt.alloc())?;
         pledge.brief()
     };
-    tells_of_its_pledge(&rt, &told?);
+    check_of_the_ring(&rt, &brief?);
     Ok(())
 }
 
@@ -126,9 +126,9 @@ fn is_made_again(pledge: &Pledge, day: Day) -> Result<bool, Fail> {
 /// Returns whether a copy, a brief, and a pledge made from the parts are like the pledge.
 fn is_same_again(pledge: &Pledge, day: Day) -> Result<bool, Fail> {
     let copied = pledge.copy()?.status(day);
-    let told = pledge.brief()?.status(day);
+    let brief = pledge.brief()?.status(day);
     let is_again = is_made_again(pledge, day)?;
-    Ok(copied == pledge.status(day) && told == copied && is_again)
+    Ok(copied == pledge.status(day) && brief == copied && is_again)
 }
 
 /// Returns whether two pledges have the same entries, secrets and extensions, and the same end of their periods.

@@ -17,10 +17,10 @@ fn asked(rt: &impl Abort, alloc: Global, bytes: &[u8]) -> Result<Request, WireFa
     read_request(alloc, &router, bytes)
 }
 
-/// Returns a broker's request for a target of book 7, with this body and with `told` as the length in its head.
-fn post(alloc: Global, target: &str, told: usize, body: &[u8]) -> Result<Vec<u8>, AllocError> {
+/// Returns a broker's request for a target of book 7, with this body and with `length` as the length in its head.
+fn post(alloc: Global, target: &str, length: usize, body: &[u8]) -> Result<Vec<u8>, AllocError> {
     let head = format!(in alloc;
-        "POST /books/7/{target} HTTP/1.1\r\nPledge-Key: 22222222-2222-2222-2222-222222222222\r\nContent-Length: {told}\r\n\r\n"
+        "POST /books/7/{target} HTTP/1.1\r\nPledge-Key: 22222222-2222-2222-2222-222222222222\r\nContent-Length: {length}\r\n\r\n"
     )?;
     let mut bytes = head.into_bytes();
     bytes.extend_from_slice(body)?;
@@ -87,11 +87,11 @@ fn replies_are_written(rt: HostRuntime) -> Result<(), Fail> {
 }
 
 #[test]
-fn a_body_is_as_long_as_its_head_tells(rt: HostRuntime) -> Result<(), Fail> {
+fn a_body_is_as_long_as_its_head_states(rt: HostRuntime) -> Result<(), Fail> {
     let alloc = rt.alloc();
     let body = b"{\"keep_after\":0,\"keep_before\":0,\"rate\":0,\"version\":7}";
-    for told in [body.len() - 1, body.len() + 1] {
-        let bytes = post(alloc, "terms", told, body)?;
+    for length in [body.len() - 1, body.len() + 1] {
+        let bytes = post(alloc, "terms", length, body)?;
         let said = asked(&rt, alloc, bytes.as_slice());
         assert_eq!(rt; said.err(), Some(WireFault::BadLength));
     }

@@ -43,7 +43,7 @@ fn key_under(name: &[u8], fields: &Fields<'_>) -> Result<Secret, WireFault>
 }
 
 /// Returns the key in the field `Pledge-Key`.
-fn key(fields: &Fields<'_>) -> Result<Secret, WireFault>
+fn pledge_key(fields: &Fields<'_>) -> Result<Secret, WireFault>
     ensures value { result ≡ key_given (codes "pledge-key") (pairs_of fields.now) }
 {
     key_under(b"pledge-key", fields)
@@ -53,7 +53,7 @@ fn key(fields: &Fields<'_>) -> Result<Secret, WireFault>
 fn create(alloc: Global, sent: &Sent<'_>) -> Result<Asks, WireFault>
     ensures value { Says result (asks_said Create (pairs_of sent.now.fields) sent.now.body.now) }
 {
-    let key = key(&sent.fields)?;
+    let key = pledge_key(&sent.fields)?;
     let value = member::json(alloc, sent.body)?;
     let new_book = body::new_book(alloc, &value)?;
     Ok(Asks::Whole(Caller::Operator { key, new_book }))
@@ -63,7 +63,7 @@ fn create(alloc: Global, sent: &Sent<'_>) -> Result<Asks, WireFault>
 fn put_terms(alloc: Global, sent: &Sent<'_>) -> Result<Asks, WireFault>
     ensures value { Says result (asks_said PutTerms (pairs_of sent.now.fields) sent.now.body.now) }
 {
-    let key = key(&sent.fields)?;
+    let key = pledge_key(&sent.fields)?;
     let value = member::json(alloc, sent.body)?;
     let terms = body::new_terms(&value).ok_or(WireFault::BadBody)?;
     Ok(by_broker(key, BrokerRequest::PutTerms(terms)))
@@ -87,7 +87,7 @@ fn by_viewer(key: Secret, view: View) -> Asks
 fn take_pledge(alloc: Global, sent: &Sent<'_>) -> Result<Asks, WireFault>
     ensures value { Says result (asks_said TakePledge (pairs_of sent.now.fields) sent.now.body.now) }
 {
-    let key = key(&sent.fields)?;
+    let key = pledge_key(&sent.fields)?;
     let value = member::json(alloc, sent.body)?;
     let opening = body::opening(alloc, &value)?;
     Ok(by_broker(key, BrokerRequest::TakePledge(opening)))
@@ -97,7 +97,7 @@ fn take_pledge(alloc: Global, sent: &Sent<'_>) -> Result<Asks, WireFault>
 fn show(number: Number, sent: &Sent<'_>) -> Result<Asks, WireFault>
     ensures value { Says result (asks_said (Show number) (pairs_of sent.now.fields) sent.now.body.now) }
 {
-    let key = key(&sent.fields)?;
+    let key = pledge_key(&sent.fields)?;
     Ok(by_viewer(key, View::Pledge(number)))
 }
 
@@ -110,7 +110,7 @@ fn command_pledge(
 ) -> Result<Asks, WireFault>
     ensures value { Says result (asks_said (OnPledge number action) (pairs_of sent.now.fields) sent.now.body.now) }
 {
-    let key = key(&sent.fields)?;
+    let key = pledge_key(&sent.fields)?;
     let command = commands::brokers_command(alloc, action, sent.body)?;
     Ok(by_broker(key, BrokerRequest::OnPledge { number, command }))
 }
@@ -119,7 +119,7 @@ fn command_pledge(
 fn show_day(day: RequestDay, sent: &Sent<'_>) -> Result<Asks, WireFault>
     ensures value { Says result (asks_said (ShowDay day) (pairs_of sent.now.fields) sent.now.body.now) }
 {
-    let key = key(&sent.fields)?;
+    let key = pledge_key(&sent.fields)?;
     Ok(by_viewer(key, View::Sheet(day)))
 }
 
@@ -127,7 +127,7 @@ fn show_day(day: RequestDay, sent: &Sent<'_>) -> Result<Asks, WireFault>
 fn export(sent: &Sent<'_>) -> Result<Asks, WireFault>
     ensures value { Says result (asks_said Export (pairs_of sent.now.fields) sent.now.body.now) }
 {
-    let key = key(&sent.fields)?;
+    let key = pledge_key(&sent.fields)?;
     Ok(by_viewer(key, View::Rows))
 }
 
@@ -135,7 +135,7 @@ fn export(sent: &Sent<'_>) -> Result<Asks, WireFault>
 fn import(sent: &Sent<'_>) -> Result<Asks, WireFault>
     ensures value { Says result (asks_said Import (pairs_of sent.now.fields) sent.now.body.now) }
 {
-    let key = key(&sent.fields)?;
+    let key = pledge_key(&sent.fields)?;
     let import_key = key_under(b"import-key", &sent.fields)?;
     Ok(Asks::Import { key, import_key })
 }

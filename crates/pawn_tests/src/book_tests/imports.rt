@@ -26,10 +26,10 @@ fn rows(alloc: Global) -> Result<ReplayableRows, Fail> {
     Ok(read_book(alloc, ROWS.as_bytes()).ok().ok_or("no book")?)
 }
 
-/// Returns the answer to an import of the rows into book 7 under a key of the import.
-fn imports(alloc: Global, keep: &mut ListKeep, key: u128) -> Result<Result<Reply, Refusal>, Fail> {
+/// Returns the answer to an import of the rows into book 7 under this word as the key of the import.
+fn imports(alloc: Global, keep: &mut ListKeep, word: u128) -> Result<Result<Reply, Refusal>, Fail> {
     let (book, day) = (number(7)?, day()?);
-    let (import_key, operator) = (Secret::of_word(key), Secret::of_word(OPERATOR));
+    let (import_key, operator) = (Secret::of_word(word), Secret::of_word(OPERATOR));
     let rows = rows(alloc)?;
     let caller = Caller::Broker {
         key: Secret::of_word(KEY),
@@ -88,10 +88,10 @@ fn an_import_fills_a_book_once(rt: HostRuntime) -> Result<(), Fail> {
     Ok(())
 }
 
-/// Returns the answer to an import of the rows into book 7 with this key of the book.
-fn put_by(alloc: Global, keep: &mut ListKeep, key: u128) -> Result<Result<Reply, Refusal>, Fail> {
+/// Returns the answer to an import of the rows into book 7 with this word as the key of the book.
+fn put_by(alloc: Global, keep: &mut ListKeep, word: u128) -> Result<Result<Reply, Refusal>, Fail> {
     let (book, day) = (number(7)?, day()?);
-    let (key, own) = (Secret::of_word(key), Secret::of_word(IMPORT));
+    let (key, own) = (Secret::of_word(word), Secret::of_word(IMPORT));
     let (stamp, rows) = (Stamp { day, word: 1 }, rows(alloc)?);
     Ok(import(alloc, keep, &stamp, book, key, own, rows))
 }
@@ -113,11 +113,11 @@ fn is_on_its_sheet(alloc: Global, keep: &mut ListKeep) -> Result<bool, Fail> {
 fn rows_are_put_by_the_books_key_alone(rt: HostRuntime) -> Result<(), Fail> {
     let alloc = rt.alloc();
     let mut keep = made(alloc, 100)?;
-    for (key, told) in [
+    for (key, expected) in [
         (ANOTHER, Err(Refusal::NoSuchBook)),
         (KEY, Ok(Reply::BookFilled(1))),
     ] {
-        assert!(rt; put_by(alloc, &mut keep, key)? == told);
+        assert!(rt; put_by(alloc, &mut keep, key)? == expected);
     }
     assert!(rt; is_on_its_sheet(alloc, &mut keep)?);
     Ok(())
