@@ -509,6 +509,21 @@ def a_redemption_by_another_during_the_question_is_told():
         no_faults()
 
 
+def a_redemption_by_another_before_the_press_is_shown():
+    """The pawnor redeems on a telephone, and then the clerk presses: the pledge beside the reason is no longer open."""
+    with an_open_book() as pages:
+        receipt, _ = take_a_ring()
+        find(receipt)
+        browser.says("This receipt is live. £100.00 is owed today.", "#commands")
+        browser.fill(".action[open] form", amount="100")
+        redeem_by(pages, receipt)
+        browser.press(".action[open] button", "Redeem")
+        browser.says("This receipt is not live: pledge 1 was redeemed", "#commands")
+        browser.says(f"Redeemed on {in_words(today())}", "#statement")
+        expect("nothing is to be received", "is to be received" in browser.text("#commands"), False)
+        no_faults()
+
+
 def a_sale_that_the_browser_sends_twice_is_told():
     with Pages() as pages, Cut(pages.port, "/sell") as line:
         make_book(pages, terms=False)
@@ -799,7 +814,7 @@ main(
         an_equal_payment_that_comes_during_the_question_is_another, redemption_by_the_paper,
         a_redemption_that_the_browser_sends_twice_is_told, a_sale_that_the_browser_sends_twice_is_told,
         a_visit_that_is_changed_during_the_question_is_not_refused_unseen,
-        a_redemption_by_another_during_the_question_is_told,
+        a_redemption_by_another_during_the_question_is_told, a_redemption_by_another_before_the_press_is_shown,
         of_a_declaration_that_the_browser_sends_twice_the_live_receipt_is_printed,
         a_receipt_of_a_pledge_that_is_over_is_printed_as_such,
         a_receipt_is_printed_again, who_waits_for_another_day, what_is_due, the_book_is_read_anew,
