@@ -322,6 +322,32 @@ def a_paper_with_an_end_that_another_till_moved_is_not_printed():
         no_faults()
 
 
+def a_tag_with_an_end_that_another_till_moved_is_not_printed():
+    """The other till is told to print the tag anew, and the first one still shows the old tag."""
+    with a_pledge_at_the_counter() as (pages, _):
+        the_book_is_read()
+        browser.run(COUNT_PRINTS)
+        command("Print a tag for the bag", "Show the tag")
+        browser.says("Until ", ".tag")
+        browser.rests()
+        browser.press("#new-receipt button", "Print the tag")
+        browser.until("return window.printed === 1", "a tag that is right is printed")
+        with browser.without_a_line():
+            browser.press("#new-receipt button", "Print the tag")
+            browser.says("It could not be read just now whether this tag is still right", "#new-receipt", patience=20)
+        browser.faults()
+        pages.session.broker("POST", "/books/7/pledges/1/extend", {"until": str(ago(-400))})
+        browser.press("#new-receipt button", "Print the tag")
+        browser.says("The pledge has changed since this tag was made", "#new-receipt")
+        there_is_no_paper()
+        expect("the old one is not printed", browser.run("return window.printed"), 1)
+        command("Print a tag for the bag", "Show the tag")
+        browser.says(f"Until {in_short(ago(-400))}", ".tag")
+        browser.press("#new-receipt button", "Print the tag")
+        browser.until("return window.printed === 2", "the new one is printed")
+        no_faults()
+
+
 # Another till declares the same receipt lost once this page's declaration was answered.
 DECLARED_TWICE = """
 const real = window.fetch;
@@ -808,6 +834,7 @@ main(
         a_receipt_that_was_redeemed_is_not_left_to_be_printed, a_receipt_with_the_old_end_is_not_left_to_be_printed,
         a_receipt_that_another_till_replaced_is_not_left_to_be_printed, a_dead_receipt_is_not_printed_by_its_button,
         a_paper_with_an_end_that_another_till_moved_is_not_printed,
+        a_tag_with_an_end_that_another_till_moved_is_not_printed,
         a_declaration_that_was_not_sent_does_not_have_the_lost_receipt_printed,
         a_paper_is_made_of_the_pledge_as_it_is_now, no_tag_is_made_of_a_pledge_that_is_over,
         a_receipt_that_another_till_replaced_is_not_called_live_any_more,
