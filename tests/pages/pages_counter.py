@@ -322,6 +322,32 @@ def a_paper_with_an_end_that_another_till_moved_is_not_printed():
         no_faults()
 
 
+def a_tag_with_an_end_that_another_till_moved_is_not_printed():
+    """The other till is told to print the tag anew, and the first one still shows the old tag."""
+    with a_pledge_at_the_counter() as (pages, _):
+        the_book_is_read()
+        browser.run(COUNT_PRINTS)
+        command("Print a tag for the bag", "Show the tag")
+        browser.says("Until ", ".tag")
+        browser.rests()
+        browser.press("#new-receipt button", "Print the tag")
+        browser.until("return window.printed === 1", "a tag that is right is printed")
+        with browser.without_a_line():
+            browser.press("#new-receipt button", "Print the tag")
+            browser.says("It could not be read just now whether this tag is still right", "#new-receipt", patience=20)
+        browser.faults()
+        pages.session.broker("POST", "/books/7/pledges/1/extend", {"until": str(ago(-400))})
+        browser.press("#new-receipt button", "Print the tag")
+        browser.says("The pledge has changed since this tag was made", "#new-receipt")
+        there_is_no_paper()
+        expect("the old one is not printed", browser.run("return window.printed"), 1)
+        command("Print a tag for the bag", "Show the tag")
+        browser.says(f"Until {in_short(ago(-400))}", ".tag")
+        browser.press("#new-receipt button", "Print the tag")
+        browser.until("return window.printed === 2", "the new one is printed")
+        no_faults()
+
+
 # Another till declares the same receipt lost once this page's declaration was answered.
 DECLARED_TWICE = """
 const real = window.fetch;
@@ -506,6 +532,21 @@ def a_redemption_by_another_during_the_question_is_told():
         browser.says("This receipt is not live: pledge 1 was redeemed", "#commands")
         expect("not by this press", "most likely by this press" in browser.text("#commands"), False)
         browser.says(f"Redeemed on {in_words(today())}", "#statement")
+        no_faults()
+
+
+def a_redemption_by_another_before_the_press_is_shown():
+    """The pawnor redeems on a telephone, and then the clerk presses: the pledge beside the reason is no longer open."""
+    with an_open_book() as pages:
+        receipt, _ = take_a_ring()
+        find(receipt)
+        browser.says("This receipt is live. £100.00 is owed today.", "#commands")
+        browser.fill(".action[open] form", amount="100")
+        redeem_by(pages, receipt)
+        browser.press(".action[open] button", "Redeem")
+        browser.says("This receipt is not live: pledge 1 was redeemed", "#commands")
+        browser.says(f"Redeemed on {in_words(today())}", "#statement")
+        expect("nothing is to be received", "is to be received" in browser.text("#commands"), False)
         no_faults()
 
 
@@ -793,13 +834,14 @@ main(
         a_receipt_that_was_redeemed_is_not_left_to_be_printed, a_receipt_with_the_old_end_is_not_left_to_be_printed,
         a_receipt_that_another_till_replaced_is_not_left_to_be_printed, a_dead_receipt_is_not_printed_by_its_button,
         a_paper_with_an_end_that_another_till_moved_is_not_printed,
+        a_tag_with_an_end_that_another_till_moved_is_not_printed,
         a_declaration_that_was_not_sent_does_not_have_the_lost_receipt_printed,
         a_paper_is_made_of_the_pledge_as_it_is_now, no_tag_is_made_of_a_pledge_that_is_over,
         a_receipt_that_another_till_replaced_is_not_called_live_any_more,
         an_equal_payment_that_comes_during_the_question_is_another, redemption_by_the_paper,
         a_redemption_that_the_browser_sends_twice_is_told, a_sale_that_the_browser_sends_twice_is_told,
         a_visit_that_is_changed_during_the_question_is_not_refused_unseen,
-        a_redemption_by_another_during_the_question_is_told,
+        a_redemption_by_another_during_the_question_is_told, a_redemption_by_another_before_the_press_is_shown,
         of_a_declaration_that_the_browser_sends_twice_the_live_receipt_is_printed,
         a_receipt_of_a_pledge_that_is_over_is_printed_as_such,
         a_receipt_is_printed_again, who_waits_for_another_day, what_is_due, the_book_is_read_anew,

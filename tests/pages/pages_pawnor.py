@@ -1,5 +1,6 @@
 """What the pawnor's page once said that was not so, each as it was found, and its words; in a real browser, by the real
 nginx, in front of the program."""
+import datetime
 import re
 
 from tests.library.checks import expect
@@ -90,6 +91,7 @@ def a_receipt_that_died_says_one_thing():
         command("Record a part payment", "Record the payment", amount="10")
         browser.says("This receipt was replaced or used", "#cards")
         browser.rests()
+        browser.says("What you asked for just now was not done.", "#cards")
         browser.until("return document.activeElement.matches('#cards h2')", "the focus on what is said")
         expect("and nothing else", "a character may be wrong" in browser.text("#cards"), False)
         browser.ask("POST", "/refresh", {})
@@ -117,6 +119,31 @@ window.fetch = async (path, how) => {
   throw new TypeError("no line");
 };
 """
+
+
+def an_act_by_a_receipt_that_died_is_said_not_to_be_done():
+    """A visit, too; but not a redemption: a browser may have sent that twice, and the first one has been done."""
+    not_done = "What you asked for just now was not done."
+    with a_pledge_by_its_receipt() as (pages, receipt):
+        browser.says("£100.00 owed today", "#cards")
+        pages.session.bearer(receipt, "POST", "/books/7/held/redeem", {"paid": 10000})
+        command("Ask for a time to come", "Ask for this time", day=(today() + datetime.timedelta(days=2)).isoformat())
+        browser.says("This receipt was replaced or used", "#cards")
+        browser.says(not_done, "#cards")
+        browser.press("#look-again")
+        browser.until("return !document.querySelector('#cards').innerText.includes(arguments[0])", "one word of it", not_done)
+        browser.says("This receipt was replaced or used", "#cards")
+    with a_pledge_by_its_receipt() as (pages, receipt):
+        browser.says("£100.00 owed today", "#cards")
+        browser.rests()
+        command("Redeem", "Redeem for £100.00")
+        browser.says("Redeem this pledge?", "dialog")
+        pages.session.bearer(receipt, "POST", "/books/7/held/redeem", {"paid": 10000})
+        browser.press("dialog button", "Yes, £100.00 was received")
+        browser.says("This receipt was replaced or used", "#cards")
+        browser.rests()
+        expect("not said of a redemption", not_done in browser.text("#cards"), False)
+        no_faults()
 
 
 def a_redemption_that_was_not_done_is_forgotten():
@@ -462,6 +489,7 @@ main(
     (
         two_equal_payments_are_two, an_amount_that_is_refused_is_not_asked_about,
         a_receipt_that_died_says_one_thing, what_was_redeemed_on_this_page_stays_redeemed,
+        an_act_by_a_receipt_that_died_is_said_not_to_be_done,
         a_redemption_that_was_not_done_is_forgotten, a_redemption_that_is_refused_is_not_asked_about,
         what_the_page_says_of_links, without_a_line,
         a_pledge_is_tried_again_by_itself_once_the_line_is_back, a_payment_on_a_line_that_drops,

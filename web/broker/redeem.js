@@ -25,11 +25,12 @@ function receiptOf(typed, number) {
   return receipt;
 }
 
-/** The present pledge that the receipt opens. */
+/** The present pledge that the receipt opens. If the pledge is over, the page is to show it anew beside the reason. */
 async function look(desk, receipt) {
   const held = await lookFirst(desk.held(receipt));
   if (held !== null) return held;
-  const { sentence, later } = await desk.whyDead(receipt);
+  const { sentence, statement, later } = await desk.whyDead(receipt);
+  if (statement && !isOpen(statement.status)) throw new Outdated(sentence, "receipt");
   throw new Unreadable(sentence, "receipt", later);
 }
 

@@ -3,27 +3,55 @@ import { becomes } from "../shared/after.js";
 import { refusalOf } from "../shared/codes.js";
 import { inShort } from "../shared/days.js";
 import { byId, foreign, make } from "../shared/dom.js";
-import { buttons } from "../shared/forms.js";
+import { isFailedLook, Outdated } from "../shared/faults.js";
+import { buttons, makeNotice, run } from "../shared/forms.js";
 import { inPounds } from "../shared/money.js";
 import { lastSafeDay } from "../shared/period.js";
 import { isOpen } from "../shared/statuses.js";
+import { Unreadable } from "../shared/unreadable.js";
+import { statementOf } from "./reading.js";
 import { current } from "./session.js";
+
+const UNREAD = "It could not be read just now whether this tag is still right, so it was not printed. "
+  + "Try again in a minute.";
+const CHANGED = "The pledge has changed since this tag was made. "
+  + "“Print a tag for the bag”, on its page, shows it as it is now.";
+
+/** Throws an Unreadable where another moved the end of the pledge since its tag was made, or closed the pledge. */
+async function refuseOld({ number, ends }, begun) {
+  const now = await statementOf(number, begun).catch((fault) => {
+    throw isFailedLook(fault) ? new Outdated(UNREAD) : fault;
+  });
+  if (now?.ends !== ends || !isOpen(now.status)) throw new Unreadable(CHANGED);
+}
+
+/** The button that prints a tag if it is still right, with its notice; else the tag is taken away. */
+function printing(statement, sheet) {
+  const begun = current();
+  const notice = makeNotice();
+  const button = make("button", { type: "button" }, "Print the tag");
+  const place = make("div", { className: "buttons screen" }, button);
+  button.addEventListener("click", async () => {
+    const fault = await run({ notice, within: place, reader: "broker", act: () => refuseOld(statement, begun) });
+    if (fault === null) window.print();
+    else if (fault instanceof Unreadable) [sheet, button].forEach((one) => one.remove());
+  });
+  return [place, notice];
+}
 
 /** The tag of a pledge, with a button that prints it. */
 export function tagOf(statement, { reference, fiveDays }) {
-  const print = make("button", { type: "button" }, "Print the tag");
-  print.addEventListener("click", () => window.print());
   const { number, article, kind, ends, credit, taken } = statement;
   const until = lastSafeDay({ ends, fiveDays });
   const sum = `${kind === "running" ? "Up to " : ""}${inPounds(credit)}`;
-  return make("div", { className: "receipt" }, make("div", { className: "buttons screen" }, print),
-    make("article", { className: "paper tag" },
-      make("p", { className: "tag-number" }, String(number)),
-      make("p", { className: "tag-reference" }, foreign(reference)),
-      make("p", { className: "tag-article" }, foreign(article)),
-      make("p", {}, `Book ${current().book}. ${sum}, taken ${inShort(taken)}.`),
-      make("p", { className: "tag-end" }, `Until ${inShort(until)}${fiveDays ? ", with grace" : ""}`),
-      make("p", {}, `After that it ${becomes(statement, "broker")}.`)));
+  const sheet = make("article", { className: "paper tag" },
+    make("p", { className: "tag-number" }, String(number)),
+    make("p", { className: "tag-reference" }, foreign(reference)),
+    make("p", { className: "tag-article" }, foreign(article)),
+    make("p", {}, `Book ${current().book}. ${sum}, taken ${inShort(taken)}.`),
+    make("p", { className: "tag-end" }, `Until ${inShort(until)}${fiveDays ? ", with grace" : ""}`),
+    make("p", {}, `After that it ${becomes(statement, "broker")}.`));
+  return make("div", { className: "receipt" }, ...printing(statement, sheet), sheet);
 }
 
 export const tagging = (_, desk) => ({

@@ -14,6 +14,8 @@ import { Unreadable } from "../shared/unreadable.js";
 import { isToCome } from "../shared/visits.js";
 import { clock, isOverToday, minuteNow, WINDOWS, windowInWords } from "../shared/windows.js";
 
+export const REDEEM = "Redeem";
+
 /** A form in a fold, which acts on the card when it is sent. */
 const foldOf = (card, title, parts, act) =>
   fold(
@@ -231,7 +233,7 @@ function redeemFold(card) {
   const lead = held ? "The pledge is on hold, so it can’t be redeemed just now. Ask at the shop why."
     : `${amount} ${AT_THE_SHOP} You are asked once more before it is done.`;
   const button = make("button", { className: "grave", disabled: held }, `Redeem for ${inPounds(owed.owing)}`);
-  return foldOf(card, "Redeem", [make("p", { className: "lead" }, lead), buttons(button)], () => redeem(card));
+  return foldOf(card, REDEEM, [make("p", { className: "lead" }, lead), buttons(button)], () => redeem(card));
 }
 
 /** What will be owed on another day, if the receipt's link contains the terms. */

@@ -8,7 +8,7 @@ import { fieldsOf, makeNotice, redrawFolds, run, sayAfter, tell } from "../share
 import { readStatement } from "../shared/statement.js";
 import { summaryOf } from "../shared/summary.js";
 import { Unreadable } from "../shared/unreadable.js";
-import { actionsOf } from "./actions.js";
+import { actionsOf, REDEEM } from "./actions.js";
 
 /** The refusals of a receipt that opens nothing. */
 const OPENS_NOTHING = [CODES.NoSuchReceipt, CODES.NoRoute, CODES.BadReceipt];
@@ -31,6 +31,12 @@ const DEAD = {
       + "newer receipt replaced it, or the pledge was redeemed already. If the paper is right, ask at the shop.",
   ],
 };
+
+const NOT_DONE = "What you asked for just now was not done.";
+
+/** Whether it is sure that an act was not done whose receipt opens nothing: a browser may send a redemption twice. */
+const isSurelyUndone = (fault, title) =>
+  isRefusal(fault, ...OPENS_NOTHING) && !fault.mayBeDone && title !== REDEEM;
 
 /** A pledge on the page. It looks at the service whenever something was done. */
 export class Card {
@@ -238,6 +244,7 @@ export class Card {
     if (fault instanceof Unreadable || said?.look === false) return;
     await this.showNow(title);
     if (this.saysDead && (this.one.lostRedemption || isRefusal(fault, ...OPENS_NOTHING))) {
+      if (isSurelyUndone(fault, title)) tell(this.notice, NOT_DONE, "bad");
       this.focus();
       return;
     }

@@ -104,7 +104,8 @@ export async function ask({ harmless, ...request }) {
   for (let turn = 0; turn <= WAITS.length; turn += 1) {
     const outcome = await attempt(request);
     if (outcome.answer) return outcome.answer;
-    if (outcome.refusal) throw outcome.refusal;
+    // An earlier attempt whose reply was lost may have been done all the same.
+    if (outcome.refusal) throw Object.assign(outcome.refusal, { mayBeDone: handedOn && !isLook });
     handedOn ||= outcome.handedOn;
     if (handedOn && !(harmless ?? isLook)) break;
     if (Date.now() - begun >= GIVE_UP) break;
