@@ -31,6 +31,7 @@ def two_machines_and_a_lost_one():
                 a_copy_is_sent,
                 a_folder_that_was_emptied,
                 a_receiver_that_is_silent,
+                a_clock_that_was_behind,
                 a_sender_that_is_lost,
                 a_receiver_without_room,
                 an_archive_that_is_removed_before_it_was_seen,
@@ -120,6 +121,18 @@ def a_receiver_that_is_silent(one, standby):
     one.run("systemctl reset-failed")
     send(one)
     expect("the next one comes through", len(archives(standby)), 2)
+
+
+def a_clock_that_was_behind(one, standby):
+    """A copy that was made meanwhile is dated before older ones. After the page's commands the newest copy has all."""
+    one.run("pawnd-admin book 15 --name 'Clock Street' --key-to /root/15.key; pawnd-admin copy main; cd /var/backups/pawnd/main; "
+            "mv \"$(ls -d 2*Z | tail -n 1)\" \"$(date -u -d '3 days ago' +%Y%m%dT%H%M%SZ)\"")
+    one.start("pawnd-offsite@main")
+    drill = "mkdir -m 700 /root/it; /usr/share/pawnd/offsite/take main /root/it; cat /root/it/var/backups/pawnd/main/*/copy.json; rm -r /root/it"
+    expect("what is taken before", '"15":' in standby.run(drill), False)
+    one.run(command(OPERATING, "A wrong clock", "pawnd-copy@main"))
+    expect("and afterwards", '"15":' in standby.run(drill), True)
+    one.run("pawnd-admin remove-book 15")
 
 
 def a_sender_that_is_lost(one, standby):
