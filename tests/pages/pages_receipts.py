@@ -208,6 +208,28 @@ def a_link_in_any_spelling_is_found_at_the_counter():
         no_faults()
 
 
+def only_the_newest_receipt_of_a_pledge_lists_it():
+    """Neither a receipt of another book, alone or in its link, nor one that was replaced."""
+    with an_open_book() as pages:
+        receipt, link = take_a_ring()
+        status, said = pages.session.broker("POST", "/books/7/pledges/1/declare", {"paper": "sworn"})
+        expect("the declaration", status, 200)
+        newest, other = said["receipt"], "1-" + "0123abcd-" * 3 + "0123abcd"
+        part("all")
+        browser.press("#book-line button", "Read the book again")
+        browser.fill("#searching", text=newest)
+        browser.until("return document.querySelector('#search-count').textContent.startsWith('1 of 1 pledges')", "the pledge")
+        for typed, count in ((newest, 1), (receipt, 0), (other, 0), (link.replace("book=7", "book=8"), 0)):
+            browser.fill("#searching", text=typed)
+            browser.says(f"{count} of 1 pledges", "#search-count")
+            told = "Press Enter" in browser.text("#search-count")
+            expect(f"what to do is said of {typed}", told, count == 0)
+        browser.run("document.querySelector('#search-text').focus()")
+        browser.keys("\ue007")
+        browser.says("That receipt is of book 8", "#all")
+        no_faults()
+
+
 def the_number_of_a_book_is_read_as_it_is_printed():
     """The paper says "book 7", so that is what is typed."""
     with Pages() as pages:
@@ -460,6 +482,7 @@ main(
         a_receipt_that_the_pledge_never_had_may_be_of_another_book, a_cut_link_is_told,
         a_link_that_is_cut_in_its_terms_says_no_other_terms, a_link_out_of_a_mail_is_read_as_it_was_meant,
         a_link_whose_hash_sign_was_changed_shows_its_pledge, a_link_in_any_spelling_is_found_at_the_counter,
+        only_the_newest_receipt_of_a_pledge_lists_it,
         the_number_of_a_book_is_read_as_it_is_printed, blanks_and_capitals_are_read_everywhere,
         several_pledges_have_a_sum_and_are_looked_at_again, a_sum_says_what_is_on_hold,
         a_link_with_several_receipts_says_of_none_what_is_of_one, a_large_sum_has_room_at_any_size_of_letters,

@@ -16,6 +16,10 @@ import { Rows } from "./rows.js";
 
 const SUM = "The sum of a line is the credit: what was lent at first, or the limit of an account.";
 
+/** What is said of a receipt that lists no pledge. */
+const NOT_NEWEST = " By the book as it was read, no pledge has this receipt as its newest one. "
+  + "Press Enter to look it up.";
+
 const form = () => byId("searching");
 
 let rows;
@@ -64,8 +68,9 @@ function search(stay = false) {
   }
   const { text, group, order } = Object.fromEntries(new FormData(form()));
   const pledges = found(book, { text, group, order }, today());
+  const hint = pledges.length === 0 && isReceiptLike(text) ? NOT_NEWEST : "";
   byId("search-count").textContent =
-    `${inThousands(pledges.length)} of ${inThousands(book.pledges.length)} pledges${lentOn(pledges)} ${SUM}`;
+    `${inThousands(pledges.length)} of ${inThousands(book.pledges.length)} pledges${lentOn(pledges)} ${SUM}${hint}`;
   rows.show(pledges, stay);
 }
 

@@ -1,7 +1,7 @@
 /** The groups of pledges by their status on a day, and the search for them. */
 import { plusDays } from "../shared/days.js";
 import { isHeldOn, statusOn } from "../shared/period.js";
-import { numberOf, pledgeTyped, receiptsTyped } from "../shared/receipts.js";
+import { pledgeTyped, receiptsTyped } from "../shared/receipts.js";
 import { isOpen } from "../shared/statuses.js";
 import { isPast, isToCome } from "../shared/visits.js";
 
@@ -93,14 +93,17 @@ export const ORDERS = {
   sum: { name: "Largest sum first", compare: by(({ credit }) => -credit) },
 };
 
-/** The pledges of a book in a group that a text finds, in an order. A receipt finds its own pledge. */
+/** Whether a receipt is the newest one of a pledge, by the book in the page. */
+const isNewestOf = (receipt) => ({ number, secrets }) => receipt === `${number}-${secrets.at(-1)?.secret}`;
+
+/** The pledges of a book in a group that a text finds, in an order. A receipt finds the pledge whose newest it is. */
 export function found(book, { text, group, order }, now) {
   const receipt = receiptsTyped(text)[0]?.receipt;
   const wanted = text.trim().toLowerCase();
   const number = pledgeTyped(wanted);
   const matches = (pledge) => wanted === "" || textOf(pledge).includes(wanted) || pledge.number === number;
   const holds = GROUPS[group].of(now);
-  const hits = receipt ? [book.pledges[numberOf(receipt) - 1]].filter(Boolean)
+  const hits = receipt ? book.pledges.filter(isNewestOf(receipt))
     : book.pledges.filter((pledge) => matches(pledge) && holds(pledge));
   const { compare } = ORDERS[order];
   return compare ? hits.sort(compare) : hits;
