@@ -227,6 +227,9 @@ def only_the_newest_receipt_of_a_pledge_lists_it():
         browser.run("document.querySelector('#search-text').focus()")
         browser.keys("\ue007")
         browser.says("That receipt is of book 8", "#all")
+        browser.fill("#searching", text=newest)
+        browser.says("1 of 1 pledges", "#search-count")
+        expect("it is not said of another receipt", "That receipt is of book 8" in browser.text("#all"), False)
         no_faults()
 
 

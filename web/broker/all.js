@@ -2,7 +2,7 @@
 import { endInShort } from "../shared/after.js";
 import { inShort, today } from "../shared/days.js";
 import { byId, foreign, make } from "../shared/dom.js";
-import { makeNotice, run } from "../shared/forms.js";
+import { makeNotice, run, tell } from "../shared/forms.js";
 import { inPounds } from "../shared/money.js";
 import { isHeldOn, statusOn } from "../shared/period.js";
 import { isReceiptLike } from "../shared/receipts.js";
@@ -82,12 +82,16 @@ export function setUpAll() {
   elements.order.append(...Object.entries(ORDERS).map(option));
   rows = new Rows({ name: "Pledges", drawRow });
   byId("all-rows").append(rows.whole);
-  elements.text.addEventListener("input", () => search());
   elements.order.addEventListener("change", () => search());
   elements.group.addEventListener(
     "change", () => { location.hash = elements.group.value === "all" ? "all" : `all=${elements.group.value}`; },
   );
   const notice = form().appendChild(makeNotice());
+  elements.text.addEventListener("input", () => {
+    // What was said of another text is not said of this one.
+    tell(notice, "");
+    search();
+  });
   form().addEventListener("submit", (event) => {
     event.preventDefault();
     if (!isReceiptLike(elements.text.value)) return;
