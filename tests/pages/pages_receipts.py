@@ -370,6 +370,22 @@ def pledges_of_several_shops_have_a_sum_for_each():
         no_faults()
 
 
+def a_receipt_that_opens_an_old_and_a_new_book_is_one_pledge():
+    """After a book was filled from another's file, both answer to the receipt; the article is one, and is owed once."""
+    with Pages() as pages:
+        text = book_text([("Jug", "R/1", 9000, ago(30), "", "no")])
+        for book in (7, 8):
+            make_book(pages, book, terms=False)
+            fill_book(pages, text, book)
+        browser.forget()
+        browser.go(f"{pages.address}/pawn/")
+        links = [f"{pages.address}/pawn/#book={book}&receipt=1-{secret_of(1)}" for book in (7, 8)]
+        browser.fill("#find", receipts="\n".join(links))
+        browser.press("#find button")
+        browser.says("One of these receipts opens a pledge in two books: that is one article, and is owed once.", "#sum-line")
+        no_faults()
+
+
 def what_will_be_owed_is_told_by_the_link():
     """By the terms of the link, with the days of grace; a receipt without its link has no such form."""
     with Pages() as pages:
@@ -490,6 +506,7 @@ main(
         several_pledges_have_a_sum_and_are_looked_at_again, a_sum_says_what_is_on_hold,
         a_link_with_several_receipts_says_of_none_what_is_of_one, a_large_sum_has_room_at_any_size_of_letters,
         pledges_of_several_shops_have_a_sum_for_each,
+        a_receipt_that_opens_an_old_and_a_new_book_is_one_pledge,
         what_will_be_owed_is_told_by_the_link,
         a_visit_that_is_over_is_not_offered_to_be_cancelled, a_visit_in_the_days_of_grace_is_in_time,
         what_comes_after_the_end_is_told, a_visit_that_is_confirmed_after_the_end_keeps_no_article,

@@ -61,6 +61,17 @@ function holdsOf(shown) {
   return ` ${count} of them ${count === 1 ? "is" : "are"} on hold, and can’t be redeemed just now.`;
 }
 
+/**
+ * What is said if a receipt is shown in two books: one was filled from the other's file, and both answer. The page
+ * can't know which of them the shop goes on with.
+ */
+function twiceOf(shown) {
+  const receipts = shown.map(({ receipt }) => receipt);
+  if (new Set(receipts).size === receipts.length) return "";
+  return " One of these receipts opens a pledge in two books: that is one article, and is owed once. "
+    + "Ask the shop which book it goes on with.";
+}
+
 /** What is owed on several pledges together. */
 function showSum() {
   const shown = cards.filter(({ owing }) => owing > 0);
@@ -68,7 +79,7 @@ function showSum() {
   const missing = cards.some(({ isShown, isRedeemed }) => !isShown && !isRedeemed) ? " What can’t be shown is not in it." : "";
   byId("sum-line").replaceChildren(
     `${inPounds(totalOf(shown))} is owed today on ${shown.length} pledges together`, ...sharesOf(shown),
-    `.${holdsOf(shown)}${missing}`,
+    `.${twiceOf(shown)}${holdsOf(shown)}${missing}`,
   );
 }
 
