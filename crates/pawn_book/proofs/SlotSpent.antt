@@ -30,34 +30,34 @@ spent_put book b k new r low high now spent = from (r.number == k) refl where
   there v is = pledge_from-put 1 book.pledges k new r.number low high ∙ ap (λ v. if v then Some new else pledge_from 1 book.pledges r.number) is
 
   from : (v : Bool) → (r.number == k) ≡ v → IsSpentReceipt (Some (record book { pledges = put_from 1 book.pledges k new })) r
-  from true is = record { pledge = new; stands = there true is; spent = now (grind (arith, nat_tests, is)) }
-  from false is = record { pledge = spent.pledge; stands = there false is ∙ spent.stands; spent = spent.spent }
+  from true is = record { pledge = new; found = there true is; spent = now (grind (arith, nat_tests, is)) }
+  from false is = record { pledge = spent.pledge; found = there false is ∙ spent.found; spent = spent.spent }
 
 spent_made : (before : Option BookValue) (operator b : ℕ) (stamp : Stamp) (caller : Caller) (change : Change) (reply : Reply) (r : Receipt)
     → MadeBy before operator b stamp caller change reply → IsSpentReceipt before r → IsSpentReceipt (changed_book before change) r
 spent_made before operator b stamp caller change reply r (BookIs key new asks passes none makes says) spent =
-    absurd_none (ap (λ book. pledge_in book r.number) (sym none) ∙ spent.stands)
+    absurd_none (ap (λ book. pledge_in book r.number) (sym none) ∙ spent.found)
 spent_made before operator b stamp caller change reply r (TermsAre key new book terms asks stands passes absent answer makes says) spent =
     let here : IsSpentReceipt (Some book) r = subst (λ o. IsSpentReceipt o r) stands spent in
     subst (λ o. IsSpentReceipt (changed_book o change) r) (sym stands) (subst (λ (c : Change). IsSpentReceipt (changed_book (Some book) c) r) (sym makes)
-    (record { pledge = here.pledge; stands = here.stands; spent = here.spent }))
+    (record { pledge = here.pledge; found = here.found; spent = here.spent }))
 spent_made before operator b stamp caller change reply r (PledgeIs key opening book p asks stands passes absent answer makes says) spent =
     let number = (taken_is (book_head book) opening stamp _ p answer).number in
     let low : 1 ≤ p.agreement.number = omega (arith, number) in
     let high : p.agreement.number ≤ 1 + length book.pledges = omega (arith, number) in
     let here : IsSpentReceipt (Some book) r = subst (λ o. IsSpentReceipt o r) stands spent in
-    let within = pledge_within 1 book.pledges r.number here.pledge here.stands in
+    let within = pledge_within 1 book.pledges r.number here.pledge here.found in
     subst (λ o. IsSpentReceipt (changed_book o change) r) (sym stands) (subst (λ (c : Change). IsSpentReceipt (changed_book (Some book) c) r) (sym makes)
     (spent_put book b p.agreement.number p r low high (λ same. absurd (omega (arith, within, same, number))) here))
 spent_made before operator b stamp caller change reply r (RowsAre key import_key rows book asks stands passes unfilled makes says) spent =
-    absurd_none (sym (ap (λ ps. pledge_from 1 ps r.number) unfilled.pledges) ∙ ap (λ o. pledge_in o r.number) (sym stands) ∙ spent.stands)
+    absurd_none (sym (ap (λ ps. pledge_from 1 ps r.number) unfilled.pledges) ∙ ap (λ o. pledge_in o r.number) (sym stands) ∙ spent.found)
 spent_made before operator b stamp caller change reply r (CommandIs book n command stands asks did) spent =
     let within = pledge_within 1 book.pledges n did.old did.stands in
     let high : n ≤ 1 + length book.pledges = omega (arith, within) in
     let here : IsSpentReceipt (Some book) r = subst (λ o. IsSpentReceipt o r) stands spent in
     subst (λ o. IsSpentReceipt (changed_book o change) r) (sym stands)
     (subst (λ (c : Change). IsSpentReceipt (changed_book (Some book) c) r) (sym did.makes) (spent_put book b n did.next r within.0 high (λ same.
-    let old : here.pledge ≡ did.old = sym (some_is did.old here.pledge (sym did.stands ∙ ap (pledge_from 1 book.pledges) (sym same) ∙ here.stands)) in
+    let old : here.pledge ≡ did.old = sym (some_is did.old here.pledge (sym did.stands ∙ ap (pledge_from 1 book.pledges) (sym same) ∙ here.found)) in
     spent-changed did.old did.next stamp command did.done r.secret (subst (λ (p : PledgeValue). IsSpent p r.secret) old here.spent) did.step) here))
 
 spent_limited : (h : Host) (b : ℕ) (o : Outcome) (r : Receipt) → IsSpentReceipt (get h.books b) r → IsSpentReceipt (book_after (get h.books b) o) r
@@ -123,7 +123,7 @@ earlier_receipts_are_spent h operator stamp request command r p change reply ask
           subst (λ (q : PledgeValue). list_any (λ i. i.secret == r.secret) q.secrets ≡ true) same issued in
           subst (λ (c : Change). IsSpentReceipt (changed_book (Some book) c) r) (sym did.makes) (record {
             pledge = did.next;
-            stands = put_there 1 book.pledges r.number did.old did.next did.stands;
+            found = put_there 1 book.pledges r.number did.old did.next did.stands;
             spent = earlier_are_spent did.old did.next stamp command did.done r.secret replaces did.step old;
           })
 
@@ -134,7 +134,7 @@ not_secret s (Some t) other = let apart : t ≡ s → ⊥ = λ same. other (ap S
 
 spent_unknown : (book : Option BookValue) (r : Receipt) → IsSpentReceipt book r → live_at (pledge_in book) r ≡ None
 spent_unknown book r spent =
-    ap (only_live r.secret) spent.stands ∙ ap (λ v. if v then Some spent.pledge else None) (not_secret r.secret (live_of spent.pledge) spent.spent.not_live)
+    ap (only_live r.secret) spent.found ∙ ap (λ v. if v then Some spent.pledge else None) (not_secret r.secret (live_of spent.pledge) spent.spent.not_live)
 
 all_unknown : (book : Option BookValue) (rs : List Receipt) → Each (IsSpentReceipt book) rs → are_unknown (map (live_at (pledge_in book)) rs) ≡ true
 all_unknown book [] each = refl

@@ -113,7 +113,7 @@ BearersAddEvents F =
 -- a receipt that was issued and is not live
 pub record IsSpentReceipt (book : Option BookValue) (r : Receipt) : Type 0 where
   pub pledge : PledgeValue
-  pub stands : pledge_in book r.number ≡ Some pledge
+  pub found : pledge_in book r.number ≡ Some pledge
   pub spent : IsSpent pledge r.secret
 
 -- an accepted declaration or redemption spends each receipt of the pledge that was issued before

@@ -23,7 +23,7 @@ next : (shard : ℕ → ℕ) (k : ℕ) (x t : Item) (all part : List Item) (i : 
 next shard k x t all part i item mine same placed = record {
   place = suc placed.place;
   twin = placed.twin;
-  stands = placed.stands;
+  found = placed.found;
   same = placed.same;
   before = inl (mine, (inputs (take placed.place part), (λ j. same j ∷ inputs (take placed.place part)), placed.before));
 }
@@ -35,7 +35,7 @@ requests_are_placed shard k (x ∷ all) [] (inl (for, (more, is, hands))) i item
 requests_are_placed shard k (x ∷ all) (t ∷ part) (inl (for, (more, is, hands))) zero item at mine = record {
   place = zero;
   twin = t;
-  stands = refl;
+  found = refl;
   same = cons_head (input_of t) (input_of x) (inputs part) more is ∙ ap input_of (some_is x item at);
   before = refl;
 }
@@ -47,11 +47,11 @@ requests_are_placed shard k (x ∷ all) part (inr (other, hands)) zero item at m
     absurd (other (subst (λ (y : Item). IsFor shard k y.bytes) (sym (some_is x item at)) mine))
 requests_are_placed shard k (x ∷ all) part (inr (other, hands)) (suc i) item at mine =
     let placed = requests_are_placed shard k all part hands i item at mine in
-    record { place = placed.place; twin = placed.twin; stands = placed.stands; same = placed.same; before = inr (other, placed.before) }
+    record { place = placed.place; twin = placed.twin; found = placed.found; same = placed.same; before = inr (other, placed.before) }
 
 pub shards_answer_as_one : ShardsReplyAsOne
 shards_answer_as_one shard k own one operator all part marked also hands i item placed request answer other is read mine told also_told settled other_settled
     begins same =
     let twin_read : SaysRequest placed.twin.bytes (Ok request) = subst (λ (c : Stamp × List ℕ). SaysRequest c.1 (Ok request)) (sym placed.same) read in
     equal_book_traces_answer_alike own one operator part all also marked placed.place i placed.twin item answer other
-    placed.stands told is also_told request twin_read read (ap (λ (c : Stamp × List ℕ). c.0) placed.same) settled other_settled begins same
+    placed.found told is also_told request twin_read read (ap (λ (c : Stamp × List ℕ). c.0) placed.same) settled other_settled begins same

@@ -33,7 +33,7 @@ HandedSplits =
 pub record IsPlaced (shard : ℕ → ℕ) (k : ℕ) (all part : List Item) (i : ℕ) (item : Item) : Type 0 where
   pub place : ℕ
   pub twin : Item
-  pub stands : slice_get part place ≡ Some twin
+  pub found : slice_get part place ≡ Some twin
   pub same : input_of twin ≡ input_of item
   pub before : HandsToShards shard k (inputs (take i all)) (inputs (take place part))
 

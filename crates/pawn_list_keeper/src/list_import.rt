@@ -56,7 +56,7 @@ pub(crate) fn fill_book(
     key: Secret,
     rows: &ReplayableRows,
 ) -> Result<(), AllocError>
-    requires stands { (at : BookValue) × (book_at (map listed_book books.old.items) book ≡ Some at) }
+    requires has_book { (at : BookValue) × (book_at (map listed_book books.old.items) book ≡ Some at) }
     ensures ok { OnOk result (HasChange (map listed_book books.old.items) (Change.ImportBook book key rows.now) (map listed_book books.new.items)) }
     ensures err { OnErr result (map listed_book books.new.items ≡ map listed_book books.old.items) }
 {

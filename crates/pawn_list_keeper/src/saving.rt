@@ -106,7 +106,7 @@ fn push_terms(
     version: u64,
     terms: Terms,
 ) -> Result<(), AllocError>
-    requires stands { (at : BookValue) × (book_at (map listed_book books.old.items) book ≡ Some at) }
+    requires has_book { (at : BookValue) × (book_at (map listed_book books.old.items) book ≡ Some at) }
     ensures ok { OnOk result (HasChange (map listed_book books.old.items) (Change.AddTerms book version terms) (map listed_book books.new.items)) }
     ensures err { OnErr result (map listed_book books.new.items ≡ map listed_book books.old.items) }
 {
@@ -127,7 +127,7 @@ fn put_pledge(
     number: Number,
     pledge: &Pledge,
 ) -> Result<(), AllocError>
-    requires stands { (at : BookValue) × (book_at (map listed_book books.old.items) book ≡ Some at) × (number ≤ 1 + length at.pledges) }
+    requires has_book { (at : BookValue) × (book_at (map listed_book books.old.items) book ≡ Some at) × (number ≤ 1 + length at.pledges) }
     ensures ok { OnOk result (HasChange (map listed_book books.old.items) (Change.PutPledge book number pledge.now) (map listed_book books.new.items)) }
     ensures err { OnErr result (map listed_book books.new.items ≡ map listed_book books.old.items) }
 {

@@ -66,7 +66,7 @@ AreTotalsAt h b n totals = (totals ≡ totals_in (pledge_in (get h.books b) n)) 
 
 -- the answer states whether there is a pledge n in book b; if there is, its debt is reachable
 abbrev pub IsCheckedAt : Host → ℕ → ℕ → Bool → Type 0
-IsCheckedAt h b n stands = (stands ≡ is_some (pledge_in (get h.books b) n)) × IfSome (pledge_in (get h.books b) n) CanBeOwed
+IsCheckedAt h b n checked = (checked ≡ is_some (pledge_in (get h.books b) n)) × IfSome (pledge_in (get h.books b) n) CanBeOwed
 
 -- this is the book with the least number that is greater than `above`, if there is one; its debts are reachable
 abbrev pub IsNextChecked : Host → ℕ → Option ℕ → Type 0

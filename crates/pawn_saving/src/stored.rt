@@ -34,7 +34,7 @@ fn is_stored_at<S: Alter>(
     place: u32,
 ) -> Result<bool, KeepError>
     ensures reads { ReadsIn (state S.Store tx.old.conn.now) (state S.Store tx.new.conn.now) result
-        (λ h stands. 1 ≤ place → (IsTrue stands ↔ place ≤ length_in list (pledge_in (get h.books book) number))) }
+        (λ h stored. 1 ≤ place → (IsTrue stored ↔ place ≤ length_in list (pledge_in (get h.books book) number))) }
     ensures lent { Lends S.Store tx.old.conn tx.new.conn (is_ok result) }
 {
     match list {

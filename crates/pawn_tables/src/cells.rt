@@ -105,7 +105,7 @@ pub(crate) fn day_at(row: &Row, at: usize) -> Result<Day, KeepError>
 }
 
 /// The day with this number, if there is a number. `NoRecord` if it is not a day that a request may name.
-pub(crate) fn request_day(number: Option<u64>) -> Result<Option<RequestDay>, KeepError>
+pub(crate) fn optional_request_day(number: Option<u64>) -> Result<Option<RequestDay>, KeepError>
     ensures read { IsRead result number (IfSome number IsRequestDay) }
 {
     let Some(number) = number else {

@@ -8,7 +8,7 @@ ghost use Rattle.pawn_tables.specs.Rows.{at_most_one, credit_cells};
 ghost use Rattle.pawn_tables.specs.StandsFor.{ListDebts};
 ghost use Rattle.std.specs.Prelude.{◌≡◌, Option, IfSome, is_ok, option_map};
 
-use crate::cells::{NO_RECORD, day_of, number_at, optional_at, request_day};
+use crate::cells::{NO_RECORD, day_of, number_at, optional_at, optional_request_day};
 use crate::queries::run_query;
 use crate::records::kind_of;
 use crate::texts::READ_CREDIT;
@@ -25,7 +25,7 @@ pub struct Credit {
 }
 
 /// The day with this number. `NoRecord` if it is not a day that a request may name.
-fn named_day(number: u64) -> Result<RequestDay, KeepError>
+fn request_day(number: u64) -> Result<RequestDay, KeepError>
     ensures read { IsRead result number (IsRequestDay number) }
 {
     match RequestDay::of_day(day_of(number)?) {
@@ -42,8 +42,8 @@ fn credit_of(row: &Row) -> Result<Credit, KeepError>
     let credit = number_at(row, 1)?;
     let kind = kind_of(number, credit)?;
     let day = number_at(row, 2)?;
-    let taken = named_day(day)?;
-    let agreed = request_day(optional_at(row, 3)?)?;
+    let taken = request_day(day)?;
+    let agreed = optional_request_day(optional_at(row, 3)?)?;
     let version = number_at(row, 4)?;
     Ok(Credit {
         kind,

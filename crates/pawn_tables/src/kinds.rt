@@ -144,7 +144,7 @@ fn pledge_number(given: &Option<Number>, kind: RowKind, row: &Row) -> Result<Num
     }
 }
 
-/// The row of this kind. Its pledge's number is given, or else stands in its last column.
+/// The row of this kind. Its pledge's number is given, or else it is in the row's last column.
 fn item_at(
     alloc: Global,
     kind: RowKind,
@@ -174,7 +174,7 @@ pub(crate) fn read_items(
     Ok(items)
 }
 
-/// Adds the row of this kind. Its pledge's number is given, or else stands in its last column.
+/// Adds the row of this kind. Its pledge's number is given, or else it is in the row's last column.
 fn add_item(
     alloc: Global,
     kind: RowKind,

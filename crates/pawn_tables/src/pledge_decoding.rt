@@ -6,7 +6,7 @@ ghost use Rattle.pawn_tables.specs.PledgeRows.{IsRowDecodable, IsOpeningDecodabl
 ghost use Rattle.pawn_tables.specs.Rows.{at_most_one, closed_day, pledge_cells};
 ghost use Rattle.std.specs.Prelude.{◌≡◌, ◌++◌, Option, IfSome, option_map};
 
-use crate::cells::{day_at, flag_at, number_at, optional_at, request_day, text_at};
+use crate::cells::{day_at, flag_at, number_at, optional_at, optional_request_day, text_at};
 use crate::records::{PledgeRow, closing_of, kind_of, optional_day};
 use pawn_book::{Closing, KeepError, Opening};
 use sqlite::Row;
@@ -19,7 +19,7 @@ fn opening_at(alloc: Global, row: &Row) -> Result<Opening, KeepError>
     let number = number_at(row, 2)?;
     let credit = number_at(row, 3)?;
     let kind = kind_of(number, credit)?;
-    let agreed = request_day(optional_at(row, 5)?)?;
+    let agreed = optional_request_day(optional_at(row, 5)?)?;
     let five_days = flag_at(row, 6)?;
     let reference = text_at(alloc, row, 0)?;
     let article = text_at(alloc, row, 1)?;

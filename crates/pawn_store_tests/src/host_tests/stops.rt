@@ -145,11 +145,11 @@ fn run_on(rt: &impl Abort, alloc: Global, disks: Disks) -> Option<Run> {
 
 /// Returns whether what is shown equals what the list shows after one of these turns.
 fn is_among(wanted: &[Shown], first: usize, last: usize, found: &Shown) -> bool {
-    let mut stands = false;
+    let mut is_wanted = false;
     for (turns, shown) in wanted.iter().enumerate() {
-        stands = stands || (first <= turns && turns <= last && are_same(found, shown));
+        is_wanted = is_wanted || (first <= turns && turns <= last && are_same(found, shown));
     }
-    stands
+    is_wanted
 }
 
 /// Makes a file stop at this call, and checks what is there afterwards: the effect of all answered turns, with or
@@ -171,8 +171,8 @@ fn stops(
         Some(answered) => (answered, answered.saturating_add(1)),
         None => (0, 0),
     };
-    let stands = is_among(wanted, first, last, &found);
-    assert!(rt; stands, "{first} answered, {calls} calls of {failing:?}");
+    let is_wanted = is_among(wanted, first, last, &found);
+    assert!(rt; is_wanted, "{first} answered, {calls} calls of {failing:?}");
     if is_whole {
         assert_eq!(rt; first, TURNS.len());
     }
