@@ -125,6 +125,14 @@ def stores_with_copies():
     )
 
 
+def how_to_put_back(book, name):
+    """The command that puts a book back as it is in the newest copy that has it, of the store of this name if one of its
+    copies does. Nothing if no copy has the book."""
+    every = [it for store in stores_with_copies() for it in copies_of(store)[0]] + removed_books()
+    copy = max((it for it in every if book in it.books), key=lambda it: (it.store == name, it.made), default=None)
+    return copy and f"`pawnd-admin restore-book {book} {copy.folder} NEW` puts it into a new store as it was at {copy.made}"
+
+
 def the_copy(name, said):
     """The copy that the operator names: by its folder, by its time, or as `newest`."""
     if said == "newest":

@@ -2,7 +2,6 @@
 
 A store gets no file but that of a good copy, and what it had is in another one. So no book is ever in fewer places than
 before."""
-import contextlib
 import os
 import subprocess
 
@@ -11,9 +10,7 @@ import replicas
 import services
 from begun import begun_file, ended_by_itself_alone, stop_if_another_began
 from books import stores_with
-from copies import (
-    COPY_NAME, Copy, books_aside, copies_of, make_copy, named, new_time, removed_books, stores_with_copies, the_copy,
-)
+from copies import Copy, books_aside, copies_of, make_copy, named, new_time, removed_books
 from files import copy_store, files_of_store, read_note, size_of_store, time_name, write_note
 from locks import alone_with, copies_folder
 from reading import contents_of
@@ -137,70 +134,39 @@ def split(name, new, books):
 # ---- one book out of a copy
 
 
-def restore_book(number, said, new):
+def restore_book(number, folder, new):
     """The verb `restore-book`. The map's line is turned last: until then nothing has changed for the broker."""
     book = book_number(number)
-    command, path = f"restore-book {book} {said} {name_to_make(new)}", begun_file(f"restore-{book}")
-    begun = copy_of_begun(path, command)
-    meant = [begun] if begun else copies_meant(book, said, new)
-    if book not in meant[0].books:
-        raise Stop(f"{meant[0].folder} has no book {book}. `grep -l '\"{book}\":' {COPIES}/*/*/copy.json` lists the copies "
-                   "that have it")
+    copy = copy_with_book(book, folder)
+    command, path = f"restore-book {book} {copy.folder} {name_to_make(new)}", begun_file(f"restore-{book}")
     with alone_with(new):
         stop_if_another_began(command, new, proxy.store_of(book, new))
         if proxy.store_of(book, new) == new and not os.path.exists(path):
-            return tell_that_it_is_back(book, new, meant)
-        copy = the_only(book, new, meant)
+            return tell_that_it_is_back(book, new, copy)
         with ended_by_itself_alone(path, command):
             turn_to_part(book, new, copy, command, path)
     say(f"book {book} is in the store {new}, as it was at {copy.made}. Rows of it that another store may have stay there, and "
         "nobody reaches them")
 
 
-def copies_meant(book, said, new):
-    """The copies that the operator may mean: the first is of the store that has the book, if that has one. Copies of
-    several stores can have one time, and a time may be that of a copy of a store which had the book before."""
-    name = proxy.store_of(book, new)
-    if said == "newest" and name in store_names() and not Store(name).is_here:
-        raise Stop(f"the store {name} is on another machine, at {Store(name).address}, which has its newest copies: run this "
-                   "command there. Or name a copy that is here by its time. Nothing was changed")
-    if not COPY_NAME.fullmatch(said):
-        return [the_copy(name, said)]
-    found = []
-    for store in sorted(stores_with_copies(), key=lambda it: it != name):
-        with contextlib.suppress(Stop):
-            found.append(Copy(os.path.join(COPIES, store, said)))
-    return [it for it in found if book in it.books] or [the_copy(name, said)]
+def copy_with_book(book, folder):
+    """Copies of several stores can have the book, and be of one time. So the operator names the folder of one."""
+    copy = Copy(folder) if os.path.isdir(folder) else None
+    if copy and book in copy.books:
+        return copy
+    raise Stop((f"{copy.folder} has no book {book}" if copy else f"{folder} is not the folder of a copy")
+               + f". `grep -l '\"{book}\":' {COPIES}/*/*/copy.json` lists the copies that have it. Nothing was changed")
 
 
-def the_only(book, new, meant):
-    """The copy that is meant: if several stores have a copy of that time, the one of the store that has the book now."""
-    if len(meant) > 1 and meant[0].store != proxy.store_of(book, new):
-        raise Stop(f"there are several copies of that time with book {book}: name one of the folders "
-                   f"{' and '.join(it.folder for it in meant)}")
-    return meant[0]
-
-
-def tell_that_it_is_back(book, new, meant):
-    """An earlier run of the command has ended if a copy of the new store was made of one of these copies."""
-    past, _ = copies_of(new)
+def tell_that_it_is_back(book, new, copy):
+    """An earlier run of the command has ended if a copy of the new store was made of this copy."""
     if book not in contents_of(the_store(new).path).books:
         raise Stop(f"the store {new} has no book {book}, but it is not new either: name a new store. Nothing was changed")
-    source = next((it for it in meant if any(of.made_of == it.folder for of in past)), None)
-    if source is None:
+    if all(it.made_of != copy.folder for it in copies_of(new)[0]):
         raise Stop(f"book {book} is in the store {new} already, and nothing was changed. If it is to be as it is in "
-                   f"{meant[0].folder}, name a new store: `pawnd-admin restore-book {book} {meant[0].folder} NEW`")
-    say(f"book {book} is in the store {new} already: it came from {source.folder}, and has what was entered since. Nothing "
+                   f"{copy.folder}, name a new store: `pawnd-admin restore-book {book} {copy.folder} NEW`")
+    say(f"book {book} is in the store {new} already: it came from {copy.folder}, and has what was entered since. Nothing "
         "was changed")
-
-
-def copy_of_begun(path, command):
-    """The copy that an earlier run of this command took, if it did not end: `newest` can be another one by now."""
-    if os.path.exists(path):
-        begun = read_note(path)
-        if begun["command"] == command and os.path.isdir(begun.get("copy", "")):
-            return Copy(begun["copy"])
-    return None
 
 
 def turn_to_part(book, new, copy, command, path):
@@ -216,7 +182,7 @@ def turn_to_part(book, new, copy, command, path):
 
 def make_store_of_copy(book, new, copy, command, path):
     """The new store with the book. It may be there from a run that did not end, and is the same then."""
-    begun = {"command": command, "stores": [new], "copy": copy.folder}
+    begun = {"command": command, "stores": [new]}
     if is_empty(new):
         with room_to_replace(new, size_of_store(copy.path)), books_aside(new, copy, {book}) as part:
             write_note(path, begun)

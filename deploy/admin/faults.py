@@ -50,10 +50,10 @@ def faults_of_books(lines, found):
 def missing_book(book, name, found):
     """What to do about a line without a book."""
     others = [it for it, books in found.items() if books and book in books]
-    if others:
-        return (f"{' and '.join(others)} has rows of it. `pawnd-admin restore-book {book} COPY NEW`. If the line were removed, rows in main would answer, "
-                "however old they are")
-    return "`pawnd-admin restore-book` if a copy has it. If it was never made, remove its line"
+    has_rows = (f"{' and '.join(others)} has rows of it. If the line were removed, rows in main would answer, however old "
+                "they are. " if others else "")
+    return has_rows + (copies.how_to_put_back(book, name) or "no copy on this machine has it"
+                       + ("" if others else ". If it was never made, remove its line"))
 
 
 def removed_books_that_are_back(found):

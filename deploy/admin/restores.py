@@ -6,7 +6,7 @@ import proxy
 import replicas
 import services
 from copies import (
-    UNSOUND, Copy, books_aside, copies_of, copy_aside, files_aside, named, new_time, removed_books, the_copy,
+    UNSOUND, Copy, books_aside, copies_of, copy_aside, files_aside, how_to_put_back, named, new_time, removed_books, the_copy,
 )
 from files import files_of_store, is_plain, size_of_store
 from locks import alone_with
@@ -49,14 +49,16 @@ def put_back(name, copy):
         later = new_time(name, later_than=begun)
         with services.stopped(store), contextlib.ExitStack() as until_replaced:
             old, mark = what_it_has(store, begun, until_replaced)
-            made = Copy(named(new, later))
+            made, had = Copy(named(new, later)), ()
             if old:
-                say(f"{named(old, mark + begun)}: what the store {name} had. Remove it when nobody misses anything")
+                folder = named(old, mark + begun)
+                say(f"{folder}: what the store {name} had. Remove it when nobody misses anything")
+                had = () if mark else Copy(folder).books
             put_in_place(name, made.path, not mark)
     enable(name)
     proxy.write_stores()
     proxy.reload_nginx()
-    tell_what_differs(store, copy)
+    tell_what_differs(store, copy, had)
     return made
 
 
@@ -74,21 +76,21 @@ def what_it_has(store, begun, stack):
         return stack.enter_context(files_aside(store.name, store.path)), UNSOUND
 
 
-def tell_what_differs(store, copy):
-    """Books that the operator may miss, or may not expect."""
-    lines = proxy.book_lines()
+def tell_what_differs(store, copy, had):
+    """Books that the operator may miss, or may not expect. `had` are the books that the store had before."""
+    lines, default = proxy.book_lines(), proxy.store_without_line(store.name)
     for book in sorted(copy.books):
-        place = lines.get(book, proxy.store_without_line(store.name))
+        place = lines.get(book, default)
         if place != store.name:
             warn(f"the copy has rows of book {book}, which is in the store {place}: nobody reaches them here")
     for it in removed_books():
         # In a copy that was made later, the book had come back already.
         for book in sorted(it.books.keys() & copy.books.keys()) if it.made >= copy.made else ():
             warn(f"book {book} was taken out at {it.made}, and is here again: `pawnd-admin remove-book {book}`")
-    for book, place in sorted(lines.items()):
-        if place == store.name and book not in copy.books:
-            warn(f"book {book} has a line for the store {place}, and was not in it at {copy.made}. If an older store "
-                 "or a later copy has it: `pawnd-admin restore-book`")
+    for book in sorted({*lines, *had} - copy.books.keys()):
+        if lines.get(book, default) == store.name:
+            warn(f"book {book} is missing now, because it was not in the store {store.name} at {copy.made}: "
+                 f"{how_to_put_back(book, store.name) or 'no copy on this machine has it'}")
     # On a machine that takes over a store, an empty store of that name may have been copied.
     older = [it for it in copies_of(store.name)[0] if it.made < copy.made and it.books]
     if older and not copy.books:

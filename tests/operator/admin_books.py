@@ -221,7 +221,7 @@ def one_book_out_of_a_copy():
         expect_run_again(it, copy)
         it.admin("restore-book", 9, copy, "north", wanted=1)
         expect("no store for a book that is not there", os.path.exists(it.path("north")), False)
-        it.admin("restore-book", 7, os.path.basename(copy), "south")
+        it.admin("restore-book", 7, copy, "south")
         in_two = "book 7 is in two stores: south answers, and nobody reaches the rows in west"
         expect("a store that no line names any more", (in_two in it.status()["notes"], it.lines()), (True, {7: "south"}))
         it.admin("remove-book", 7)
@@ -230,31 +230,20 @@ def one_book_out_of_a_copy():
 
 
 def expect_run_again(it, copy):
-    """A run of the command that had ended, with the copy's folder or its time, changes nothing and ends well. Where the
-    copy is another one, the command says what to do, and a time may be that of a copy of the store that had the book."""
+    """A run of the command that had ended changes nothing and ends well. Where the copy is another one, the command says
+    what to do. It takes no time in place of a folder, since copies of several stores can be of one time."""
     before = books_in(it.path("west")), it.lines()
-    for named in (copy, os.path.basename(copy)):
+    for named in (copy, os.path.join(copy, "")):
         said = it.admin("restore-book", 7, named, "west")
         expect(f"again by {named}: {said}", "is in the store west already" in said and "othing was changed" in said, True)
-    expect_run_again_in_one_second(it, copy)
     it.admin("copy", "west"), it.admin("copy", "main")
-    for named in ("newest", it.newest("main")):
+    for named in (it.newest("west"), it.newest("main")):
         said = it.admin("restore-book", 7, named, "west", wanted=1)
         expect(f"another copy: {said}", "othing was changed" in said and "name a new store" in said, True)
+    for named in ("newest", os.path.basename(copy)):
+        said = it.admin("restore-book", 7, named, "north", wanted=1)
+        expect(f"no folder: {said}", "is not the folder of a copy" in said and "grep -l" in said, True)
     expect("what is there", (books_in(it.path("west")), it.lines()), before)
-
-
-def expect_run_again_in_one_second(it, copy):
-    """The copy of the new store has the time of the copy that the book came from, and so has a copy of a third store with
-    this book: a quick machine makes both within a second, and timers make copies of several stores at one time."""
-    own, same = it.newest("west"), os.path.join(it.copies, "west", os.path.basename(copy))
-    third = os.path.join(it.copies, "third", os.path.basename(copy))
-    shutil.copytree(copy, third)
-    # Where the machine was quick, it has that name already.
-    os.rename(own, same)
-    said = it.admin("restore-book", 7, os.path.basename(copy), "west")
-    expect(f"again, by the time of several copies: {said}", "is in the store west already" in said, True)
-    os.rename(same, own), shutil.rmtree(os.path.dirname(third))
 
 
 def a_broker_who_leaves():

@@ -4,6 +4,7 @@ import contextlib
 import datetime
 import json
 import os
+import re
 import shutil
 import sqlite3
 import stat
@@ -255,6 +256,24 @@ def what_stood_there_becomes_a_copy():
         expect("what commands left", it.leftovers(), [])
 
 
+def a_book_that_was_made_after_the_copy():
+    """No line of the map names a book of `main`. The command says that the book is missing now, and how it comes back."""
+    with Machine() as it:
+        it.book(7, pledges=1)
+        it.admin("copy", "main")
+        early = it.newest("main")
+        caller = it.book(9, pledges=2)
+        caller.repay()
+        said = it.admin("restore", "main", os.path.basename(early))
+        told = re.findall(r"book 9 is missing now, because .*: `pawnd-admin (restore-book 9 \S+) NEW`", said)
+        expect(f"what it says: {said}", (len(told), "book 7 is missing" in said), (1, False))
+        expect("the book", caller.request("GET", "/pledges/1")[0], 404)
+        it.admin(*told[0].split(), "back")
+        caller.look_up()
+        said = it.admin("restore", "main", early)
+        expect(f"when it is in another store: {said}", "is missing now" in said, False)
+
+
 def a_database_that_is_lost():
     """Its log alone is left. A copy is put back, and the log is kept beside the copies."""
     with Machine() as it:
@@ -485,6 +504,7 @@ if __name__ == "__main__":
         a_copy_may_be_looked_into,
         without_its_log_a_copy_is_refused,
         what_stood_there_becomes_a_copy,
+        a_book_that_was_made_after_the_copy,
         a_database_that_is_lost,
         a_link_in_the_place_of_a_store,
         old_copies_are_removed,

@@ -57,7 +57,7 @@ def a_store_for_the_proxy_of_another_machine():
         for caller in callers.values():
             caller.look_up()
         it.admin("split", "west", "north", 11, 13)
-        it.admin("copy", "west"), it.admin("restore-book", 12, "newest", "south")
+        it.admin("copy", "west"), it.admin("restore-book", 12, it.newest("west"), "south")
         callers[12].repay(), callers[12].look_up()
         expect("the map", it.lines(), {11: "north", 12: "south", 13: "north"})
         it.admin("remove-book", 12), it.admin("remove-book", 10), it.admin("remove-book", 13)
@@ -73,8 +73,7 @@ def a_store_for_the_proxy_of_another_machine():
 
 
 def a_book_of_a_store_that_was_moved_away():
-    """The copies that are left here are older than the move. None of them is put back as the newest one; a copy that is
-    named by its time or by its folder is."""
+    """The copies that are left here are older than the move. One that is named is put back all the same."""
     with Machine() as it:
         it.store("west")
         caller = it.book(7, "west", pledges=2)
@@ -84,11 +83,7 @@ def a_book_of_a_store_that_was_moved_away():
             port = file.read().partition("PORT=")[2].strip()
         it.write("etc/stores/west.conf", f"ADDRESS=127.0.0.1:{port}\n")
         it.admin("reload")
-        said = it.admin("restore-book", 7, "newest", "back", wanted=1)
-        expect(f"what it says: {said}", "is on another machine" in said and "Nothing was changed" in said, True)
-        expect("the map", it.lines(), {7: "west"})
-        caller.look_up()
-        it.admin("restore-book", 7, os.path.basename(it.newest("west")), "back")
+        it.admin("restore-book", 7, it.newest("west"), "back")
         expect("the copy that was named", (it.lines(), caller.entries()), ({7: "back"}, 0))
 
 
@@ -135,7 +130,8 @@ def a_division_that_stops_after_the_map_was_turned():
     with Machine() as it:
         callers = {number: it.book(number, pledges=1) for number in (7, 8)}
         it.admin("copy", "main")
-        for words in (("split", "main", "west", "8"), ("restore-book", "8", "newest", "east")):
+        for verb, *others in (("split", "main", "west", "8"), ("restore-book", "8", "west", "east")):
+            words = [verb, *(it.newest(word) if verb == "restore-book" and word == "west" else word for word in others)]
             said = it.admin_with(*words, PLANT="the_new_store_does_not_start", wanted=1)
             expect(f"what is said: {said}", f"run it again, `pawnd-admin {' '.join(words)}`" in said, True)
             callers[7].repay(), callers[7].look_up()
@@ -164,7 +160,7 @@ def a_full_disk():
         caller = it.book(7, pledges=2)
         it.admin("copy", "main")
         both = ("split", "main", "west", 7), ("remove-book", 7)
-        others = ("restore", "main", "newest"), ("restore-book", 7, "newest", "west"), ("store", "west")
+        others = ("restore", "main", "newest"), ("restore-book", 7, it.newest("main"), "west"), ("store", "west")
         of_copies = ("copy", "main"), *both, *others[:2]
         for folder, commands in ((it.copies, of_copies), (it.stores, (*both, *others))):
             with it.filled(folder):
@@ -255,7 +251,7 @@ def the_name_of_a_store_elsewhere():
         it.admin("copy", "main")
         it.write("etc/stores/east.conf", "ADDRESS=127.0.0.1:1\n")
         it.admin("reload")
-        for words in (("split", "main", "east", 7), ("restore-book", 7, "newest", "east"), ("store", "east")):
+        for words in (("split", "main", "east", 7), ("restore-book", 7, it.newest("main"), "east"), ("store", "east")):
             said = it.admin(*words, wanted=1)
             expect(f"{words}: {said}", "choose another name. Nothing was changed" in said, True)
             caller.look_up()

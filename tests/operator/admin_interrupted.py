@@ -133,7 +133,7 @@ def another_verb_in_its_place():
         it.admin("copy", "main")
         begun_and_not_ended(it, "split", "main", "north", 8, 9)
         others = (
-            ("remove-book", 9), ("restore-book", 8, os.path.basename(it.newest("main")), "east"), ("split", "west", "north", 10),
+            ("remove-book", 9), ("restore-book", 8, it.newest("main"), "east"), ("split", "west", "north", 10),
             ("split", "main", "east", 7), ("book", 12, "--name", "New Street", "--store", "north", "--key-to", it.place("12")),
         )
         for words in others[:-1]:
@@ -146,10 +146,11 @@ def another_verb_in_its_place():
         it.admin("split", "main", "north", 8, 9)
         expect("the books", (books_in(it.path("main")), books_in(it.path("north"))), ({7}, {8, 9}))
         it.admin("copy", "west")
-        begun_and_not_ended(it, "restore-book", 10, "newest", "back")
+        again = "restore-book", 10, it.newest("west"), "back"
+        begun_and_not_ended(it, *again)
         said = it.admin("remove-book", 10, wanted=1)
-        expect(f"a removal: {said}", "first run it again: `pawnd-admin restore-book 10 newest back`" in said, True)
-        said = it.admin("restore-book", 10, "newest", "back")
+        expect(f"a removal: {said}", f"first run it again: `pawnd-admin {' '.join(map(str, again))}`" in said, True)
+        said = it.admin(*again)
         expect(f"what it says of the store that answers: {said}", "the store back may have" in said, False)
         for words in (("remove-book", 9), others[-1]):
             it.admin(*words)

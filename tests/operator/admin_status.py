@@ -143,7 +143,8 @@ def books_and_lines():
         expect_wrong(it, "book 8 is in the store west and has no line")
         it.write("etc/books.map", "8 west;\n7 west;\n9 south;\n")
         it.admin("reload")
-        expect_wrong(it, "book 7 has a line for the store west, and is not there: main has rows of it",
+        expect_wrong(it, "book 7 has a line for the store west, and is not there: main has rows of it. If the line were removed, "
+                     f"rows in main would answer, however old they are. `pawnd-admin restore-book 7 {it.newest('main')} NEW`",
                      "book 9 has a line for the store south, and there is no such store: if the store is on another machine, "
                      "`echo ADDRESS=")
         it.write("etc/books.map", "8 west;\n")
@@ -154,7 +155,7 @@ def books_and_lines():
         it.write("slow", f'#!/bin/sh\n[ "$1" != serve ] || sleep 3\nexec {PROGRAM} "$@"\n', 0o755)
         it.admin("split", "main", "north", 7, PAWND=it.place("slow"))
         expect_wrong(it)
-        it.admin("restore-book", 7, "newest", "south")
+        it.admin("restore-book", 7, it.newest("north"), "south")
         notes = it.status()["notes"]
         in_two = [line for line in notes if "book 7 is in two stores: south answers" in line]
         expect(f"a book in two stores: {notes}", len(in_two), 1)
@@ -284,9 +285,8 @@ def a_clock_that_was_set_back():
             expect(f"{text!r} in {wrong}", text in wrong, False)
         said = it.admin("copy", "main")
         expect(f"what `copy` says: {said}", ("are dated in the future" in said, "remove it" in said), (True, False))
-        for words in (("restore", "main", "newest"), ("restore-book", 7, "newest", "west")):
-            said = it.admin(*words, wanted=1)
-            expect(f"{words}: {said}", f"3 copies, {later[0]} to {later[2]}, are dated in the future" in said, True)
+        said = it.admin("restore", "main", "newest", wanted=1)
+        expect(f"what `restore` says: {said}", f"3 copies, {later[0]} to {later[2]}, are dated in the future" in said, True)
         caller.look_up()
         expect("they stay", [os.path.exists(os.path.join(it.copies, "main", name)) for name in later], [True] * 3)
         away = it.place("away")

@@ -40,7 +40,7 @@ def killed_restore_of_the_newest():
     ))
 
 
-def killed_restore_book_of_the_newest():
+def killed_restore_book():
     """There is a newer copy by then, with more of the book: a second run of a command that has begun goes on with the
     first one."""
     def meanwhile(story):
@@ -54,18 +54,9 @@ def killed_restore_book_of_the_newest():
         expect("the new store", books_in(story.machine.path("north")), {8})
         expect("book 8", story.callers[8].entries(), 1)
 
-    killed(["restore-book", "8", "newest", "north"], after, goes_back={8}, named=(
+    killed(["restore-book", "8", "FOLDER", "north"], after, goes_back={8}, named=(
         "books.map.new", "restore-8.json', -1",
     ), meanwhile=meanwhile)
-
-
-def killed_restore_book():
-    def after(story):
-        expect_well(story, *ALL)
-        expect("the new store", books_in(story.machine.path("north")), {8})
-        expect("book 8", story.callers[8].entries(), 1)
-
-    killed(["restore-book", "8", "COPY", "north"], after, goes_back={8})
 
 
 def killed_remove_book():
@@ -114,7 +105,7 @@ def killed_restore_book_on_a_second_machine():
         expect_far(story, west={7, 8, 9, 10}, north={8})
         expect("book 8", story.callers[8].entries(), 1)
 
-    killed(["restore-book", "8", "COPY", "north"], after, goes_back={8}, kind=FarStory)
+    killed(["restore-book", "8", "FOLDER", "north"], after, goes_back={8}, kind=FarStory)
 
 
 def killed_remove_book_on_a_second_machine():

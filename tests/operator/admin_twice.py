@@ -87,7 +87,7 @@ def two_verbs_on_one_store():
             before = places_of(it)
             running = [begun(it, *words) for words in (
                 ("split", "main", "west", 8), ("copy", "main"), ("remove-book", 9),
-                ("restore-book", 8, "newest", "north"),
+                ("restore-book", 8, it.newest("main"), "north"),
             )]
             said = [" ".join(one.communicate(timeout=900)) for one in running]
             await_load(callers[7])
@@ -111,7 +111,7 @@ def a_store_that_is_held_up():
         handle = os.open(it.place("backups/main"), os.O_RDONLY)
         fcntl.flock(handle, fcntl.LOCK_EX)
         it.admin("copy", "west"), it.admin("new-key", 8, "--key-to", it.place("new"))
-        it.admin("store", "north"), it.admin("restore-book", 8, "newest", "east")
+        it.admin("store", "north"), it.admin("restore-book", 8, it.newest("west"), "east")
         begin = time.monotonic()
         for words in (
             ("copy", "main"), ("split", "main", "south", 7), ("remove-book", 7), ("restore", "main", "newest"),

@@ -1,5 +1,6 @@
 """The commands of docs/DEPLOYING.md and docs/OPERATING.md on Debians that run systemd, as they are written: the copies
 of the first week, and the bad days."""
+import os
 import re
 import tempfile
 
@@ -79,7 +80,8 @@ def one_book_put_back(one):
     told = one.run(command(OPERATING, "490, a full store", "copy.json"))
     expect("how many rows each book has", re.findall(r'"(\d+)": \{\s+"rows": (\d+),', told), [("7", "6"), ("8", "4")])
     expect("spoilt", (enter(one, 3)[0], enter(one, 2, 8, "/root/8.key")[0]), (200, 200))
-    one.run(command(OPERATING, "One book put back", "restore-book"))
+    copy = one.run(command(OPERATING, "One book put back", "grep -l")).split()[-1]
+    one.run(command(OPERATING, "One book put back", "restore-book").replace("FOLDER", os.path.dirname(copy)))
     answers_again(one)
     expect("the book is as in the copy", [ask(one, f"/books/7/pledges/{number}")[0] for number in (2, 3)], [200, 404])
     expect("the other book has all", ask(one, "/books/8/pledges/2", key="/root/8.key")[0], 200)

@@ -94,7 +94,7 @@ def a_division_there(one, second):
     answers_again(one, target="/books/11/pledges/1", key="/root/11.key")
     expect("both go on", (enter(one, 3, 10, "/root/10.key")[0], enter(one, 2, 11, "/root/11.key")[0]), (200, 200))
     expect("the map there", second.run("cat /etc/pawnd/books.map"), "11 west;\n")
-    second.run("sleep 1; pawnd-admin copy east; pawnd-admin restore-book 10 newest back")
+    second.run("sleep 1; pawnd-admin copy east; pawnd-admin restore-book 10 $(ls -d /var/backups/pawnd/east/2*Z | tail -1) back")
     expect("a book that came back", ask(one, "/books/10/pledges/3", key="/root/10.key")[0], 200)
     expect("it goes on", enter(one, 4, 10, "/root/10.key")[0], 200)
     expect("the first machine's map", one.run("cat /etc/pawnd/books.map /etc/pawnd/stores.conf"), before)

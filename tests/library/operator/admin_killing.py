@@ -34,7 +34,8 @@ class Story:
             caller.repay()
         for store in self.STORES:
             machine.admin("copy", store)
-        self.copy = os.path.basename(machine.newest(next(iter(self.STORES))))
+        self.folder = machine.newest(next(iter(self.STORES)))
+        self.copy = os.path.basename(self.folder)
         for caller in self.callers.values():
             caller.repay()
         self.keep()
@@ -128,7 +129,7 @@ def killed(words, after, goes_back=(), named=(), meanwhile=lambda story: None, k
     draw = random.Random(f"{SEED} {words}")
     with Machine() as it:
         story = kind(it)
-        words = [{"COPY": story.copy, "NEW": it.place("new-key")}.get(word, word) for word in words]
+        words = [{"COPY": story.copy, "FOLDER": story.folder, "NEW": it.place("new-key")}.get(word, word) for word in words]
         it.admin_with(*words, KILL_AT="0", STEPS=it.place("steps"))
         after(story)
         steps = it.steps()
