@@ -123,7 +123,6 @@ if __name__ == "__main__":
         killed_restore,
         killed_restore_of_the_newest,
         killed_restore_book,
-        killed_restore_book_of_the_newest,
         killed_remove_book,
         killed_removal_of_a_last_book,
         killed_split_on_a_second_machine,
