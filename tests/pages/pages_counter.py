@@ -550,6 +550,49 @@ def a_redemption_by_another_before_the_press_is_shown():
         no_faults()
 
 
+def a_sale_is_not_recorded_where_the_pledge_changed_during_the_question():
+    """The question names what was owed, and a sale can't be taken back. The other till may have sold it already, or the
+    pawnor may have paid, so that the article is not sold any more."""
+    with Pages() as pages:
+        make_book(pages, terms=False)
+        fill_book(pages, book_text([("Old clock", "O1", 9000, ago(220), "", "no")], rates=(0, 0, 0)))
+        open_book(pages)
+        the_book_is_read()
+        find("1")
+        browser.says("£90.00 owed today", "#statement")
+        receipt = f"1-{secret_of(1)}"
+        for change, says in (
+            (
+                lambda: pages.session.broker("POST", "/books/7/pledges/1/repay", {"pence": 5000, "seq": 1}),
+                "The sale was not recorded. £40.00 is owed now.",
+            ),
+            (lambda: pages.session.broker("POST", "/books/7/pledges/1/hold"), "It is on hold."),
+            (
+                lambda: pages.session.bearer(receipt, "POST", "/books/7/held/ask", {"day": str(ago(-3)), "window": 3}),
+                f"The pawnor is to come for it: {in_words(ago(-3))}, 10:30 to 11:00: asked for",
+            ),
+        ):
+            command("Sale", "Record the sale", amount="120.25")
+            browser.element("dialog")
+            expect("a change", change()[0], 200)
+            browser.press("dialog button", "Sold for £120.25")
+            browser.says("Since this pledge was shown here, it has changed.", ".action[open] .notice")
+            browser.says(says, ".action[open] .notice")
+            browser.rests()
+            typed = "return document.querySelector('.action[open] [name=amount]').value"
+            expect("what was typed stays", browser.run(typed), "120.25")
+        browser.says("£40.00 owed today", "#statement")
+        command("Sale", "Record the sale", amount="120.25")
+        browser.says("£40.00 is owed today. The surplus is £80.25: it is the pawnor’s.", "dialog")
+        sold = pages.session.broker("POST", "/books/7/pledges/1/sell", {"net": 12025})
+        expect("another till sells it", sold[0], 200)
+        browser.press("dialog button", "Sold for £120.25")
+        browser.says("The pledge is redeemed or sold already.", "#commands")
+        browser.says("Sold on", "#statement")
+        expect("not by this press", "the sale is recorded once" in browser.text("#commands"), False)
+        no_faults()
+
+
 def a_sale_that_the_browser_sends_twice_is_told():
     with Pages() as pages, Cut(pages.port, "/sell") as line:
         make_book(pages, terms=False)
@@ -840,6 +883,7 @@ main(
         a_receipt_that_another_till_replaced_is_not_called_live_any_more,
         an_equal_payment_that_comes_during_the_question_is_another, redemption_by_the_paper,
         a_redemption_that_the_browser_sends_twice_is_told, a_sale_that_the_browser_sends_twice_is_told,
+        a_sale_is_not_recorded_where_the_pledge_changed_during_the_question,
         a_visit_that_is_changed_during_the_question_is_not_refused_unseen,
         a_redemption_by_another_during_the_question_is_told, a_redemption_by_another_before_the_press_is_shown,
         of_a_declaration_that_the_browser_sends_twice_the_live_receipt_is_printed,
