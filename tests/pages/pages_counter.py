@@ -348,6 +348,101 @@ def a_tag_with_an_end_that_another_till_moved_is_not_printed():
         no_faults()
 
 
+def a_pledge_that_changed_since_its_paper_was_made_is_shown_as_it_is_now():
+    """At once, and not only within the next minute: beside the word that it changed, its old figures mislead."""
+    with a_pledge_at_the_counter() as (pages, receipt):
+        the_book_is_read()
+        browser.run(COUNT_PRINTS)
+        command("Print the receipt again", "Print the receipt again")
+        agree()
+        browser.says("It was looked at just now: it is live.", "#commands")
+        browser.rests()
+        pages.session.broker("POST", "/books/7/pledges/1/extend", {"until": str(ago(-400))})
+        browser.press("#new-receipt button", "Print the receipt")
+        browser.says(in_words(ago(-400)), "#statement")
+        browser.rests()
+        browser.says("The pledge has changed since this paper was made", "#commands > .notice")
+        command("Print a tag for the bag", "Show the tag")
+        browser.says("Until ", ".tag")
+        browser.rests()
+        pages.session.broker("POST", "/books/7/pledges/1/extend", {"until": str(ago(-500))})
+        browser.press("#new-receipt button", "Print the tag")
+        browser.says(in_words(ago(-500)), "#statement")
+        browser.rests()
+        browser.says("The pledge has changed since this tag was made", "#new-receipt")
+        command("Print the receipt again", "Print the receipt again")
+        agree()
+        browser.says("It was looked at just now: it is live.", "#commands")
+        browser.rests()
+        redeem_by(pages, receipt)
+        browser.press("#new-receipt button", "Print the receipt")
+        browser.says("Redeemed on", "#statement")
+        browser.rests()
+        browser.says("This receipt is not live: pledge 1 was redeemed", "#commands > .notice")
+        expect("nothing is printed", browser.run("return window.printed"), 0)
+        second, _ = take_a_ring(reference="A2")
+        find("2")
+        command("Print the receipt again", "Print the receipt again")
+        agree()
+        browser.says("It was looked at just now: it is live.", "#commands")
+        browser.rests()
+        redeem_by(pages, second)
+        browser.press("#read-book")
+        browser.says("Redeemed on", "#statement")
+        browser.says("This receipt is not live: pledge 2 was redeemed with it on", "#commands > .notice")
+        no_faults()
+
+
+OUT_OF_DATE = "This is out of date: the pledge has changed since it was read at"
+
+
+def a_form_that_was_begun_stays_where_its_pledge_changed():
+    """The pledge above it is out of date, says so, and can be read again. Until then the form asks about the change
+    when it is sent."""
+    with a_pledge_at_the_counter() as (pages, _):
+        the_book_is_read()
+        browser.run(COUNT_PRINTS)
+        typed = "return document.querySelector('.action[open] [name=amount]').value"
+
+        def change_it(paper, show, print_it, owed, seq):
+            command(paper, show)
+            agree()
+            browser.element("#new-receipt .paper")
+            browser.rests()
+            unfold("Repayment")
+            browser.fill(".action[open] form", amount="5")
+            browser.rests()
+            pages.session.broker("POST", "/books/7/pledges/1/repay", {"pence": 1000, "seq": seq})
+            pages.session.broker("POST", "/books/7/pledges/1/extend", {"until": str(ago(-400 - seq))})
+            browser.press("#new-receipt button", print_it)
+            browser.says(OUT_OF_DATE, "#statement")
+            browser.says(f"{owed} owed today", "#statement")
+            there_is_no_paper()
+            expect("what was typed", browser.run(typed), "5")
+
+        change_it("Print a tag for the bag", "Show the tag", "Print the tag", "£100.00", 1)
+        expect("no tag is ready", browser.text("#commands > .notice"), "")
+        browser.shoot("broker-out-of-date")
+        with browser.without_a_line():
+            browser.press("#statement button", "Read the pledge again")
+            browser.says("The service can’t be reached just now.", "#statement", patience=20)
+        browser.faults()
+        browser.press("#statement button", "Read the pledge again")
+        browser.says("£90.00 owed today", "#statement")
+        expect("it is out of date no more", OUT_OF_DATE in browser.text("#statement"), False)
+        expect("what was typed is there still", browser.run(typed), "5")
+        change_it("Print the receipt again", "Print the receipt again", "Print the receipt", "£90.00", 2)
+        browser.press("#read-book")
+        browser.rests()
+        browser.says(OUT_OF_DATE, "#statement")
+        browser.press(".action[open] button", "Record the repayment")
+        browser.says("Something came in between", "dialog")
+        browser.press("dialog button", "Yes, record £5.00 as well")
+        browser.says("£75.00 owed today", "#statement")
+        expect("it is out of date no more", OUT_OF_DATE in browser.text("#statement"), False)
+        no_faults()
+
+
 # Another till declares the same receipt lost once this page's declaration was answered.
 DECLARED_TWICE = """
 const real = window.fetch;
@@ -547,6 +642,49 @@ def a_redemption_by_another_before_the_press_is_shown():
         browser.says("This receipt is not live: pledge 1 was redeemed", "#commands")
         browser.says(f"Redeemed on {in_words(today())}", "#statement")
         expect("nothing is to be received", "is to be received" in browser.text("#commands"), False)
+        no_faults()
+
+
+def a_sale_is_not_recorded_where_the_pledge_changed_during_the_question():
+    """The question names what was owed, and a sale can't be taken back. The other till may have sold it already, or the
+    pawnor may have paid, so that the article is not sold any more."""
+    with Pages() as pages:
+        make_book(pages, terms=False)
+        fill_book(pages, book_text([("Old clock", "O1", 9000, ago(220), "", "no")], rates=(0, 0, 0)))
+        open_book(pages)
+        the_book_is_read()
+        find("1")
+        browser.says("£90.00 owed today", "#statement")
+        receipt = f"1-{secret_of(1)}"
+        for change, says in (
+            (
+                lambda: pages.session.broker("POST", "/books/7/pledges/1/repay", {"pence": 5000, "seq": 1}),
+                "The sale was not recorded. £40.00 is owed now.",
+            ),
+            (lambda: pages.session.broker("POST", "/books/7/pledges/1/hold"), "It is on hold."),
+            (
+                lambda: pages.session.bearer(receipt, "POST", "/books/7/held/ask", {"day": str(ago(-3)), "window": 3}),
+                f"The pawnor is to come for it: {in_words(ago(-3))}, 10:30 to 11:00: asked for",
+            ),
+        ):
+            command("Sale", "Record the sale", amount="120.25")
+            browser.element("dialog")
+            expect("a change", change()[0], 200)
+            browser.press("dialog button", "Sold for £120.25")
+            browser.says("Since this pledge was shown here, it has changed.", ".action[open] .notice")
+            browser.says(says, ".action[open] .notice")
+            browser.rests()
+            typed = "return document.querySelector('.action[open] [name=amount]').value"
+            expect("what was typed stays", browser.run(typed), "120.25")
+        browser.says("£40.00 owed today", "#statement")
+        command("Sale", "Record the sale", amount="120.25")
+        browser.says("£40.00 is owed today. The surplus is £80.25: it is the pawnor’s.", "dialog")
+        sold = pages.session.broker("POST", "/books/7/pledges/1/sell", {"net": 12025})
+        expect("another till sells it", sold[0], 200)
+        browser.press("dialog button", "Sold for £120.25")
+        browser.says("The pledge is redeemed or sold already.", "#commands")
+        browser.says("Sold on", "#statement")
+        expect("not by this press", "the sale is recorded once" in browser.text("#commands"), False)
         no_faults()
 
 
@@ -835,11 +973,14 @@ main(
         a_receipt_that_another_till_replaced_is_not_left_to_be_printed, a_dead_receipt_is_not_printed_by_its_button,
         a_paper_with_an_end_that_another_till_moved_is_not_printed,
         a_tag_with_an_end_that_another_till_moved_is_not_printed,
+        a_pledge_that_changed_since_its_paper_was_made_is_shown_as_it_is_now,
+        a_form_that_was_begun_stays_where_its_pledge_changed,
         a_declaration_that_was_not_sent_does_not_have_the_lost_receipt_printed,
         a_paper_is_made_of_the_pledge_as_it_is_now, no_tag_is_made_of_a_pledge_that_is_over,
         a_receipt_that_another_till_replaced_is_not_called_live_any_more,
         an_equal_payment_that_comes_during_the_question_is_another, redemption_by_the_paper,
         a_redemption_that_the_browser_sends_twice_is_told, a_sale_that_the_browser_sends_twice_is_told,
+        a_sale_is_not_recorded_where_the_pledge_changed_during_the_question,
         a_visit_that_is_changed_during_the_question_is_not_refused_unseen,
         a_redemption_by_another_during_the_question_is_told, a_redemption_by_another_before_the_press_is_shown,
         of_a_declaration_that_the_browser_sends_twice_the_live_receipt_is_printed,

@@ -51,6 +51,38 @@ def references_are_found():
         no_faults()
 
 
+def a_number_is_found_with_noughts_before_it():
+    """Bags have tags such as "007". A reference with noughts is found as it is written."""
+    with Pages() as pages:
+        make_book(pages)
+        for number, reference in enumerate(("A1", "004", "A3", "A4", "A5", "0006"), 1):
+            pages.session.open_pledge(number, ref=reference, article=f"Ring {number}")
+        open_book(pages)
+        the_book_is_read()
+        for typed, article in (
+            ("003", "Ring 3"), ("#01", "Ring 1"), ("Pledge 0005", "Ring 5"), ("0006", "Ring 6"),
+            ("0000000000003", "Ring 3"),
+        ):
+            find(typed)
+            browser.says(article, "#statement")
+            part("all")
+            browser.fill("#searching", text=typed)
+            browser.says("1 of 6 pledges", "#search-count")
+            browser.says(article, "#all-rows")
+            browser.fill("#searching", text="")
+        find("004")
+        browser.says("More than one pledge can be meant.", "#finding")
+        offered = "return [...document.querySelectorAll('#choices a')].map((one) => one.textContent)"
+        expect("the one of the reference first", browser.run(offered), ["Pledge 2", "Pledge 4"])
+        part("all")
+        browser.fill("#searching", text="004")
+        browser.says("2 of 6 pledges", "#search-count")
+        for typed in ("007", "000"):
+            find(typed)
+            browser.says("The book has no pledge of that number or reference.", "#finding")
+        no_faults()
+
+
 OPEN_FOLDS = "return [...document.querySelectorAll('.action[open] > summary')].map((one) => one.textContent)"
 
 
@@ -293,7 +325,8 @@ def the_till_has_a_pawnors_payment_once_the_book_is_read_again():
 main(
     (),
     (
-        references_are_found, a_reference_that_another_till_took_is_not_offered_again,
+        references_are_found, a_number_is_found_with_noughts_before_it,
+        a_reference_that_another_till_took_is_not_offered_again,
         what_was_typed_for_one_pledge_is_not_carried_to_another, all_entries_can_be_seen,
         back_reload_and_today, what_is_typed_is_looked_at,
         the_same_file_is_one_import, a_shops_day,

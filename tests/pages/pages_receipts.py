@@ -233,6 +233,34 @@ def only_the_newest_receipt_of_a_pledge_lists_it():
         no_faults()
 
 
+def a_receipt_that_lacks_a_digit_is_told_in_the_list_of_pledges():
+    """As where it is found. A text that lists a pledge is not called a receipt."""
+    with an_open_book() as pages:
+        named = "1-" + "a" * 31
+        pages.session.open_pledge(1, article=f"Ring {named}")
+        receipt, _ = take_a_ring(reference="A2")
+        part("all")
+        browser.press("#book-line button", "Read the book again")
+        browser.says("2 of 2 pledges", "#search-count")
+        for typed, says in (
+            (receipt[:-1], "That is no whole receipt. There are 31 digits after the number, and a receipt has 32."),
+            (receipt[:-1] + "x", "That is no whole receipt. It has the letter “x”"),
+        ):
+            browser.fill("#searching", text=typed)
+            browser.says("0 of 2 pledges", "#search-count")
+            browser.run("document.querySelector('#search-text').focus()")
+            browser.keys("\ue007")
+            browser.says(says, "#searching")
+        for typed, count in (("no such ring", 0), (named, 1)):
+            browser.fill("#searching", text=typed)
+            browser.says(f"{count} of 2 pledges", "#search-count")
+            browser.run("document.querySelector('#search-text').focus()")
+            browser.keys("\ue007")
+            browser.rests()
+            expect(f"nothing is said of {typed}", browser.text("#searching .notice"), "")
+        no_faults()
+
+
 def the_number_of_a_book_is_read_as_it_is_printed():
     """The paper says "book 7", so that is what is typed."""
     with Pages() as pages:
@@ -502,6 +530,7 @@ main(
         a_link_that_is_cut_in_its_terms_says_no_other_terms, a_link_out_of_a_mail_is_read_as_it_was_meant,
         a_link_whose_hash_sign_was_changed_shows_its_pledge, a_link_in_any_spelling_is_found_at_the_counter,
         only_the_newest_receipt_of_a_pledge_lists_it,
+        a_receipt_that_lacks_a_digit_is_told_in_the_list_of_pledges,
         the_number_of_a_book_is_read_as_it_is_printed, blanks_and_capitals_are_read_everywhere,
         several_pledges_have_a_sum_and_are_looked_at_again, a_sum_says_what_is_on_hold,
         a_link_with_several_receipts_says_of_none_what_is_of_one, a_large_sum_has_room_at_any_size_of_letters,

@@ -5,7 +5,7 @@ import { byId, foreign, make } from "../shared/dom.js";
 import { makeNotice, run, tell } from "../shared/forms.js";
 import { inPounds } from "../shared/money.js";
 import { isHeldOn, statusOn } from "../shared/period.js";
-import { isReceiptLike } from "../shared/receipts.js";
+import { isReceiptLike, whyNotWhole } from "../shared/receipts.js";
 import { isOpen, STATUSES } from "../shared/statuses.js";
 import { bookingInShort } from "../shared/visits.js";
 import { missingInWords } from "./age.js";
@@ -94,8 +94,10 @@ export function setUpAll() {
   });
   form().addEventListener("submit", (event) => {
     event.preventDefault();
-    if (!isReceiptLike(elements.text.value)) return;
-    run({ notice, within: form(), reader: "broker", act: () => openReceipt(elements.text.value) });
+    const text = elements.text.value;
+    // A reference or an article may look like a receipt that is not whole: then it lists its pledge.
+    const isCut = rows.items.length === 0 && whyNotWhole(text) !== "";
+    if (isReceiptLike(text) || isCut) run({ notice, within: form(), reader: "broker", act: () => openReceipt(text) });
   });
 }
 

@@ -5,7 +5,7 @@ import { inShort, today } from "../shared/days.js";
 import { byId, foreign, make } from "../shared/dom.js";
 import { CHANGED, Outdated, Refused } from "../shared/faults.js";
 import {
-  fieldsOf, foldOf, makeNotice, outcomeOf, redrawFolds, run, sayAfter, tell, tellLater,
+  buttons, fieldsOf, foldOf, makeNotice, outcomeOf, redrawFolds, run, sayAfter, tell, tellLater,
 } from "../shared/forms.js";
 import { inPounds } from "../shared/money.js";
 import { othersInWords } from "../shared/payments.js";
@@ -35,6 +35,7 @@ class Desk {
     // The number of the pledge on which an act is under way, whose forms are not drawn anew meanwhile; or null.
     this.actingOn = null;
     this.perform = this.perform.bind(this);
+    this.readAnew = this.readAnew.bind(this);
     this.forget();
   }
 
@@ -44,12 +45,14 @@ class Desk {
    * page; `wanted` the number that was asked for last; `sought` the one that the form of the search found;
    * `lostRedemptions`, by their receipts, what was paid by redemptions whose replies were lost; `saidOn` the day on
    * which the notice was filled; `ofReceipt` what was said last of a receipt that was found; `readAt` when the
-   * statement was read; `saidOld` what was said where it could not be read again.
+   * statement was read; `saidOld` what was said where it could not be read again; `isOutdated` whether the statement is
+   * known to be out of date.
    */
   forget() {
     Object.assign(this, {
       statement: null, drawn: null, paper: null, fresh: null, message: null, isDrawnByBook: false, wanted: null,
       sought: null, lostRedemptions: new Map(), saidOn: null, ofReceipt: null, readAt: 0, saidOld: "",
+      isOutdated: false,
     });
     tell(this.notice, "");
   }
@@ -131,17 +134,39 @@ class Desk {
    * focus stays where it was.
    */
   draw(done = null) {
-    const { statement, known } = this;
+    const { statement } = this;
     const focused = document.activeElement;
-    const wasRead = byId("statement").contains(focused);
-    this.isDrawnByBook = known.reference !== null;
-    byId("statement").replaceChildren(...summaryOf({ statement, known, place: this.place() }));
+    this.drawStatement();
     this.drawReckoning();
     const commands = byId("commands");
     redrawFolds(commands, () => commands.replaceChildren(this.notice, ...commandsOf(statement, this.ofShown())), done);
     byId("found").hidden = false;
-    if (wasRead) byId("statement").querySelector("h2").focus({ preventScroll: true });
     if (focused === this.notice) focused.focus({ preventScroll: true });
+  }
+
+  /** Draws the statement, which says so if it is known to be out of date. */
+  drawStatement() {
+    const { statement, known } = this;
+    const place = byId("statement");
+    const wasRead = place.contains(document.activeElement);
+    this.isDrawnByBook = known.reference !== null;
+    const [head, ...rest] = summaryOf({ statement, known, place: this.place() });
+    place.replaceChildren(head, ...(this.isOutdated ? [this.outdatedLine()] : []), ...rest);
+    if (wasRead) place.querySelector("h2").focus({ preventScroll: true });
+  }
+
+  /** The line that says that the statement is out of date, with the button that reads the pledge again. */
+  outdatedLine() {
+    const { number } = this;
+    const notice = makeNotice();
+    const said = `This is out of date: the pledge has changed since it was read at ${clockOf(this.readAt)}.`;
+    const button = make("button", { type: "button", className: "plain" }, "Read the pledge again");
+    const line = make("div", { className: "inline" }, make("p", { className: "loud", role: "status" }, said));
+    line.append(buttons(button), notice);
+    button.addEventListener("click", () => run({
+      notice, within: line, reader: "broker", act: () => this.look(number), about: number, mayBeOvertaken: true,
+    }));
+    return line;
   }
 
   /** Draws the form that computes what will be owed, with the day that was typed. */
@@ -168,6 +193,7 @@ class Desk {
     this.drawn = number;
     this.statement = found;
     this.readAt = Date.now();
+    this.isOutdated = false;
     ledger.mend(found);
     this.draw(done);
     if (news) ledger.anotherChanged({ isMissing: ledger.pledge(number) === null });
@@ -236,7 +262,8 @@ class Desk {
     const { known } = this;
     if (!known.terms) throw new Error("the book does not have the pledge’s terms");
     if (this.wanted !== this.number || this.statement?.number !== this.number) throw new Outdated(ANOTHER);
-    byId("new-receipt").replaceChildren(receiptSheet({ statement, receipt, known, said: this.notice }));
+    const { notice: said, readAnew } = this;
+    byId("new-receipt").replaceChildren(receiptSheet({ statement, receipt, known, said, readAnew }));
     byId("new-receipt").scrollIntoView();
     return statement;
   }
@@ -273,14 +300,38 @@ class Desk {
     if (!this.isIdle || this.statement !== statement) return;
     this.tellOld(null);
     this.readAt = Date.now();
-    if (JSON.stringify(found) === JSON.stringify(statement)) return;
-    this.fresh = found;
-    await this.look(number);
-    // What was said or printed before may name another sum, or another end; a warning stays.
+    if (!this.isOutdated && JSON.stringify(found) === JSON.stringify(statement)) return;
+    // Its paper may have another sum, or another end.
     byId("new-receipt").replaceChildren();
+    await this.showChanged(found);
+  }
+
+  /** Shows the pledge as it was read again. What was said before may name another sum or end; a warning stays. */
+  async showChanged(found) {
+    this.fresh = found;
+    await this.look(found.number);
     if (this.notice.classList.contains("bad")) return;
     tell(this.notice, CHANGED);
     this.saidOn = today();
+  }
+
+  /**
+   * Reads the pledge of this number again at once, if it is the one that is shown: its paper is not right any more. If
+   * a form is open, the statement says that it is out of date, and the form asks about the change when it is sent.
+   */
+  async readAnew(number) {
+    const { statement } = this;
+    if (statement?.number !== number) return;
+    const found = await this.read(number).catch(() => null);
+    if (this.statement !== statement || JSON.stringify(found) === JSON.stringify(statement)) return;
+    if (found !== null && this.isIdle) {
+      await this.showChanged(found);
+      return;
+    }
+    this.isOutdated = true;
+    this.drawStatement();
+    // Such as that the tag is ready to print.
+    if (!this.notice.classList.contains("bad")) tell(this.notice, "");
   }
 
   /** Takes away the paper, and the word that a receipt is live, where the book shows that it is not live any more. */
@@ -288,7 +339,9 @@ class Desk {
     const ofScanned = whyDeadByBook(this.scanned);
     const why = dropDeadPaper(byId("new-receipt")) ?? (this.notice.textContent === this.ofReceipt ? ofScanned : null);
     if (ofScanned !== null) this.paper = null;
-    if (why !== null) tell(this.notice, why, "bad");
+    if (why === null) return;
+    tell(this.notice, why, "bad");
+    this.readAnew(this.number);
   }
 
   /** Forgets the receipt that was found, and leaves none in the form: its paper may be gone with the customer. */

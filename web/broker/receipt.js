@@ -69,7 +69,7 @@ const looks = new WeakMap();
 export const recheckPaper = (place) => looks.get(place.querySelector(".receipt"))?.().catch(() => {});
 
 /** The button that prints a receipt if it may still be printed, with its notice; `said` is that of the whole part. */
-function printing({ statement, receipt, said }, whole) {
+function printing({ statement, receipt, said, readAnew }, whole) {
   const begun = current();
   const notice = makeNotice();
   const button = make("button", { type: "button" }, "Print the receipt");
@@ -82,6 +82,7 @@ function printing({ statement, receipt, said }, whole) {
         whole.parentElement.replaceChildren();
         tell(said, fault.message, "bad");
         tellLater(said, fault);
+        readAnew?.(statement.number);
       }
       throw fault;
     }
@@ -97,9 +98,10 @@ function printing({ statement, receipt, said }, whole) {
 
 /**
  * The receipt of a pledge, with a button that prints it: by its statement, the receipt's text, what the book has of the
- * pledge and its statement lacks, and the notice that says why the paper is taken away.
+ * pledge and its statement lacks, and the notice that says why the paper is taken away. Then `readAnew`, if there is
+ * one, reads the pledge again that is shown beside the paper.
  */
-export function receiptSheet({ statement, receipt, known, said }) {
+export function receiptSheet({ statement, receipt, known, said, readAnew }) {
   const { name, till } = shop();
   const { terms, fiveDays, reference } = known;
   const { origin } = location;
@@ -115,6 +117,6 @@ export function receiptSheet({ statement, receipt, known, said }) {
     make("div", { className: "signs" },
       sign(till ? `For the shop, ${till}` : "For the shop"), sign("Customer’s name"), sign("Received by")));
   const whole = make("div", { className: "receipt" });
-  whole.append(...printing({ statement, receipt, said }, whole), sheet);
+  whole.append(...printing({ statement, receipt, said, readAnew }, whole), sheet);
   return whole;
 }

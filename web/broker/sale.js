@@ -2,7 +2,7 @@
 import { CODES, isRefusal, refusalOf } from "../shared/codes.js";
 import { inWords } from "../shared/days.js";
 import { make } from "../shared/dom.js";
-import { lookFirst, orSeen } from "../shared/faults.js";
+import { CHANGED, lookFirst, orSeen, Outdated } from "../shared/faults.js";
 import { buttons, field } from "../shared/forms.js";
 import { inPounds, MOST_PENCE, readPounds } from "../shared/money.js";
 import { firstDayAfter, willPass } from "../shared/period.js";
@@ -52,17 +52,39 @@ async function settleClosed(desk, fault, net) {
 /** What the service answers to a sale where the pledge was closed, or has passed. */
 const REFUSED = { passed: "Passed", redeemed: "Closed", sold: "Closed" };
 
+/** The present pledge. Throws where its article can't be sold. */
+async function look(desk) {
+  const now = await lookFirst(desk.read());
+  if (now.status !== "realisable") throw refusalOf(REFUSED[now.status] ?? "NotRealisable");
+  return now;
+}
+
+/** What the question says of the pledge and a day does not change by itself. */
+const askedOf = ({ entries, held, booking }) => JSON.stringify([entries, held, isToCome(booking) ? booking : null]);
+
+/**
+ * Throws where the pledge is not as it was asked about: the service would take the sale, at other figures than the
+ * question named, and it can't be taken back.
+ */
+function refuseChanged(asked, now) {
+  if (askedOf(asked) === askedOf(now)) return;
+  throw new Outdated([
+    `${CHANGED} The sale was not recorded. ${inPounds(now.owed.owing)} is owed now.`, now.held ? "It is on hold." : "",
+    isToCome(now.booking) ? `The pawnor is to come for it: ${bookingInWords(now.booking)}.` : "",
+    "Look at the pledge before you record the sale.",
+  ].filter(Boolean).join(" "));
+}
+
 async function sell({ amount }, desk) {
   const net = readPounds(amount);
   if (net > MOST_PENCE) throw refusalOf("BadAmount");
-  const now = await lookFirst(desk.read());
-  const { status, owed, held, booking } = now;
-  if (status !== "realisable") throw refusalOf(REFUSED[status] ?? "NotRealisable");
+  const now = await look(desk);
+  const { owed, held, booking } = now;
   const yes = await confirmed({
     title: "Record the sale?", about: now,
     lines: [
       `The article was sold, and ${inPounds(net)} is left after the costs of the sale.`,
-      owed ? `${inPounds(owed.owing)} is owed today. ${outcome(net, owed.owing)}` : null,
+      `${inPounds(owed.owing)} is owed today. ${outcome(net, owed.owing)}`,
       held ? "Find out why it is on hold before the article is sold." : null,
       isToCome(booking) ? `The pawnor is to come for it: ${bookingInWords(booking)}.` : null,
       "The pledge is closed by it. It can’t be taken back.",
@@ -70,6 +92,7 @@ async function sell({ amount }, desk) {
     yes: `Sold for ${inPounds(net)}`, no: "Not now",
   });
   if (!yes) return NOTHING_DONE;
+  refuseChanged(now, await look(desk));
   return orSeen(
     desk.command("sell", { net }, false).then(({ said }) => done(said), (fault) => settleClosed(desk, fault, net)),
     () => desk.read(), (after) => (isSale(after, net) ? done(after.closing) : null),

@@ -26,7 +26,7 @@ async function refuseOld({ number, ends }, begun) {
 }
 
 /** The button that prints a tag if it is still right, with its notice; else the tag is taken away. */
-function printing(statement, sheet) {
+function printing({ statement, sheet, readAnew }) {
   const begun = current();
   const notice = makeNotice();
   const button = make("button", { type: "button" }, "Print the tag");
@@ -34,13 +34,19 @@ function printing(statement, sheet) {
   button.addEventListener("click", async () => {
     const fault = await run({ notice, within: place, reader: "broker", act: () => refuseOld(statement, begun) });
     if (fault === null) window.print();
-    else if (fault instanceof Unreadable) [sheet, button].forEach((one) => one.remove());
+    else if (fault instanceof Unreadable) {
+      [sheet, button].forEach((one) => one.remove());
+      readAnew?.(statement.number);
+    }
   });
   return [place, notice];
 }
 
-/** The tag of a pledge, with a button that prints it. */
-export function tagOf(statement, { reference, fiveDays }) {
+/**
+ * The tag of a pledge, with a button that prints it. If the tag is taken away, `readAnew`, if there is one, reads the
+ * pledge again that is shown beside it.
+ */
+export function tagOf(statement, { reference, fiveDays }, readAnew) {
   const { number, article, kind, ends, credit, taken } = statement;
   const until = lastSafeDay({ ends, fiveDays });
   const sum = `${kind === "running" ? "Up to " : ""}${inPounds(credit)}`;
@@ -51,7 +57,7 @@ export function tagOf(statement, { reference, fiveDays }) {
     make("p", {}, `Book ${current().book}. ${sum}, taken ${inShort(taken)}.`),
     make("p", { className: "tag-end" }, `Until ${inShort(until)}${fiveDays ? ", with grace" : ""}`),
     make("p", {}, `After that it ${becomes(statement, "broker")}.`));
-  return make("div", { className: "receipt" }, ...printing(statement, sheet), sheet);
+  return make("div", { className: "receipt" }, ...printing({ statement, sheet, readAnew }), sheet);
 }
 
 export const tagging = (_, desk) => ({
@@ -64,7 +70,7 @@ export const tagging = (_, desk) => ({
   act: async () => {
     const now = await desk.read();
     if (!isOpen(now.status)) throw refusalOf(now.status === "passed" ? "Passed" : "Closed");
-    byId("new-receipt").replaceChildren(tagOf(now, desk.known));
+    byId("new-receipt").replaceChildren(tagOf(now, desk.known, desk.readAnew));
     byId("new-receipt").scrollIntoView();
     return "The tag is below, ready to print.";
   },

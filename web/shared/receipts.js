@@ -8,7 +8,7 @@ const UNSEEN = /[\u200b-\u200f\u202a-\u202e\u2060\u2066-\u2069\ufeff{}]|urn:uuid
 const RECEIPT = /(?:^|[^0-9a-z])([1-9]\d{0,8})[\s-]+((?:[0-9a-f][\s-]*){31}[0-9a-f])(?![0-9a-z])/gi;
 const BOOK = /^[1-9]\d{0,8}$/;
 const BOOK_TYPED = /^\W*(?:book)?\W*(?:no|number)?\W*([1-9]\d{0,8})\W*$/i;
-const PLEDGE_TYPED = /^(?:#|pledge\b)?\s*([1-9]\d{0,8})$/i;
+const PLEDGE_TYPED = /^(?:#|pledge\b)?\s*0*([1-9]\d{0,8})$/i;
 const TERMS = /^(\d{1,5})\.(\d{1,8})\.(\d{1,8})$/;
 /** The texts that a link may have in addition to the receipt, and the most letters of each. */
 const LONGEST = { shop: 60, rate: 120, ref: 40 };
@@ -56,7 +56,7 @@ export const numberOf = (receipt) => Number(receipt.split("-")[0]);
 /** The number of a book as people type it: alone, or as the paper has it, such as “book 7”; or an empty text. */
 export const bookTyped = (text) => BOOK_TYPED.exec(plain(text))?.[1] ?? "";
 
-/** The number of a pledge as people type it: alone, as “#12”, or as “Pledge 12”; or null. */
+/** The number of a pledge as people type it: alone, as “#12” or “Pledge 12”, also with noughts before it; or null. */
 export const pledgeTyped = (text) => Number(PLEDGE_TYPED.exec(text)?.[1] ?? 0) || null;
 
 /** A link of which a program has escaped the marks between its parts. */
