@@ -10,8 +10,8 @@ use Rattle.pawn_list_keeper.proofs.saving.put_pledge.Goals as goal
 pub put-requires : goal.put-requires
 put-requires c = record {
   within = subst (λ (k : BookValue). c.args.number ≤ 1 + length k.pledges)
-      (kept_at_place c.deref.result.now c.args.books.now.items c.args.book c.in-Some.place c.index_mut-kept.result.now c.requires.has_book.0 c.deref.ensures.value
-      c.in-Some.ensures.within c.in-Some.ensures.some c.index_mut-kept.ensures.value c.requires.has_book.1) c.requires.has_book.2;
+      (kept_at_place c.deref.result.now c.args.books.now.items c.args.book c.in-Some.place c.index_mut-kept.result.now c.requires.has_book.0
+      c.deref.ensures.value c.in-Some.ensures.within c.in-Some.ensures.some c.index_mut-kept.ensures.value c.requires.has_book.1) c.requires.has_book.2;
 }
 
 pub returns : goal.returns
