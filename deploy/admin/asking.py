@@ -9,7 +9,7 @@ import time
 
 import proxy
 import services
-from settings import PROXY, SETTINGS
+from settings import PROXY, SETTINGS, Stop
 
 # A certificate that is good for so few days is WRONG.
 SHORT_CERTIFICATE = 14
@@ -115,6 +115,11 @@ def state_of_proxy(has_begun):
         wrong.append("nginx does not run: `systemctl start nginx`, then `journalctl -u nginx` if it does not start")
         return state, wrong, notes
     state["runs"] = True
+    try:
+        proxy.run("nginx", "-t", "-q", fails="nginx refuses its files, so it goes on by the old ones, and would not start at the "
+                  "next boot. Mend them, then run `pawnd-admin reload`")
+    except Stop as why:
+        wrong.append(str(why))
     if proxy.is_of_another_machine():
         notes.append("there is no store main here: the proxy of another machine reaches the stores, and has the certificate "
                      "and the map of books")

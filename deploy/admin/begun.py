@@ -32,11 +32,12 @@ def begun_with(store):
     return next((it["command"] for _, it in begun_notes() if store in it.get("stores", ())), None)
 
 
-def stop_if_another_began(command, *stores):
-    """No command begins to move or make books in a store of one that has begun to move some: that one could not end any more."""
-    for name, note in begun_notes():
-        begun = note.get("command", name)
-        if begun != command and not begun.startswith("book ") and {*stores} & {*note.get("stores", ())}:
+def stop_if_another_began(command, *stores, name=None):
+    """No command makes a store, or begins to move or make books in one, where another command has begun to move some in
+    it: that one could not end any more. Nor does one begin that would write down under this name what it does."""
+    for known, note in begun_notes():
+        begun = note.get("command", known)
+        if begun != command and not begun.startswith("book ") and (known == name or {*stores} & {*note.get("stores", ())}):
             raise Stop(f"another command has begun and not ended. If it is not at work any more, first run it again: `pawnd-admin {begun}`")
 
 

@@ -71,13 +71,14 @@ class Copy:
 
 def copies_of(name):
     """The finished copies of a store, oldest first, and those apart that are dated in the future: they are never the
-    newest, and are never removed."""
+    newest, and are never removed. A copy of another store that somebody put there is none of them."""
     folder, past, future = os.path.join(COPIES, name), [], []
     for it in sorted(os.listdir(folder)) if os.path.isdir(folder) else ():
         with contextlib.suppress(Stop, ValueError):
             if COPY_NAME.fullmatch(it):
                 copy = Copy(os.path.join(folder, it))
-                (future if copy.is_future else past).append(copy)
+                if copy.store == name:
+                    (future if copy.is_future else past).append(copy)
     return past, future
 
 

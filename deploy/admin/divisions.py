@@ -89,8 +89,8 @@ class Split:
         default = proxy.store_without_line(self.store.name)
         elsewhere = [it for it in sorted(self.books) if lines.get(it, default) != self.store.name]
         if elsewhere and not (self.is_begun and turned):
-            raise Stop(f"the map says that books {listed(elsewhere)} are in {lines.get(elsewhere[0], default)}, and not "
-                       f"in {self.store.name}")
+            raise Stop(f"requests for books {listed(elsewhere)} go to the store {lines.get(elsewhere[0], default)}, and not to "
+                       f"{self.store.name}")
         if self.books - there:
             raise Stop(f"the store {self.store.name} has no book {listed(self.books - there)}")
 
@@ -137,25 +137,39 @@ def split(name, new, books):
 def restore_book(number, folder, new):
     """The verb `restore-book`. The map's line is turned last: until then nothing has changed for the broker."""
     book = book_number(number)
-    copy = copy_with_book(book, folder)
-    command, path = f"restore-book {book} {copy.folder} {name_to_make(new)}", begun_file(f"restore-{book}")
+    name = f"restore-{book}"
+    copy, path = copy_with_book(book, folder, begun_file(name)), begun_file(name)
+    command = f"restore-book {book} {copy.folder} {name_to_make(new)}"
     with alone_with(new):
-        stop_if_another_began(command, new, proxy.store_of(book, new))
-        if proxy.store_of(book, new) == new and not os.path.exists(path):
+        stop_if_another_began(command, new, proxy.store_of(book, new), name=name)
+        was_turned = proxy.store_of(book, new) == new
+        if was_turned and not os.path.exists(path):
             return tell_that_it_is_back(book, new, copy)
         with ended_by_itself_alone(path, command):
             turn_to_part(book, new, copy, command, path)
-    say(f"book {book} is in the store {new}, as it was at {copy.made}. Rows of it that another store may have stay there, and "
-        "nobody reaches them")
+    since = ", with what was entered since it answers there" if was_turned else ""
+    say(f"book {book} is in the store {new}, as it was at {copy.made}{since}. Rows of it that another store may have stay "
+        "there, and nobody reaches them")
 
 
-def copy_with_book(book, folder):
+def copy_with_book(book, folder, path):
     """Copies of several stores can have the book, and be of one time. So the operator names the folder of one."""
     copy = Copy(folder) if os.path.isdir(folder) else None
     if copy and book in copy.books:
         return copy
     raise Stop((f"{copy.folder} has no book {book}" if copy else f"{folder} is not the folder of a copy")
-               + f". `grep -l '\"{book}\":' {COPIES}/*/*/copy.json` lists the copies that have it. Nothing was changed")
+               + f". `grep -l '\"{book}\":' {COPIES}/*/*/copy.json` lists the copies that have it. Nothing was changed"
+               + how_to_give_up(path))
+
+
+def how_to_give_up(path):
+    """What to do if a command that did not end cannot be run again, since its copy is gone."""
+    if not os.path.exists(path):
+        return ""
+    begun = read_note(path)
+    new = begun["stores"][0]
+    return (f". `pawnd-admin {begun['command']}` did not end. If its copy is gone for good, give it up: `rm {path}`, then "
+            f"`pawnd-admin store {new}`. OPERATING.md, `A store without books`, says how the store {new} is removed")
 
 
 def tell_that_it_is_back(book, new, copy):

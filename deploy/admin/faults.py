@@ -57,12 +57,17 @@ def missing_book(book, name, found):
 
 
 def removed_books_that_are_back(found):
+    kept = {}
     for copy in copies.removed_books():
         for book in copy.books:
-            for name in [it for it, books in found.items() if books and book in books]:
-                yield (f"book {book} was taken out at {copy.made}, and is in the store {name} again. If its broker has not come "
-                       f"back: `pawnd-admin remove-book {book}`. If the broker has, and nobody needs the book as it was then, "
-                       f"`rm -r {copy.folder}` ends this note")
+            kept.setdefault(book, []).append(copy)
+    for book, states in sorted(kept.items()):
+        names = [it for it, books in sorted(found.items()) if books and book in books]
+        if names:
+            folders = " ".join(it.folder for it in states)
+            yield (f"book {book} was taken out at {states[-1].made}, and is in the store {' and '.join(names)} again. If its "
+                   f"broker has not come back: `pawnd-admin remove-book {book}`. If the broker has, and nobody needs the book "
+                   f"as it was then, `rm -r {folders}` ends this note")
 
 
 def faults_of_key():

@@ -52,8 +52,9 @@ def put_back(name, copy):
             made, had = Copy(named(new, later)), ()
             if old:
                 folder = named(old, mark + begun)
-                say(f"{folder}: what the store {name} had. Remove it when nobody misses anything")
                 had = () if mark else Copy(folder).books
+                counted = "" if mark else f", {in_words(Copy(folder).counts)}"
+                say(f"{folder}: what the store {name} had{counted}. Remove it when nobody misses anything")
             put_in_place(name, made.path, not mark)
     enable(name)
     proxy.write_stores()

@@ -113,6 +113,9 @@ def state_of_file(store, state, wrong):
             f"{folder} or a file in it does not belong to its user, so it does not start: `chown -R pawnd-{store.name}: "
             f"{folder}`, then `systemctl restart {services.unit_of(store.name)}`"
         )
+    if not store.volume and any(os.stat(it).st_nlink > 1 for it in files_of_store(store.path)):
+        wrong.append(f"a file in {folder} has a second name, so it does not start again: `find / -xdev -samefile {store.path}` and "
+                     f"the same with {store.path}-wal find it. Remove the other name")
     found = contents_of(store.path)
     rows, limit, counts = found.meta["rows"], found.meta["limit"], found.counts
     state.update(counts, limit=limit, bytes=os.path.getsize(store.path), log_bytes=services.log_bytes(store.path))

@@ -6,6 +6,7 @@ import socket
 
 import replicas
 import services
+from begun import stop_if_another_began
 from copies import forget_failed_check
 from files import (
     BLOCK, LOG, copy_bytes, copy_store, files_of_store, open_plain, owner_of, replaced, room_for, room_in, sync,
@@ -123,6 +124,7 @@ def new_store(name):
     """The verb `store`. Each step leaves what is there already, so a command that was killed is run again."""
     name_to_make(name)
     with alone_with(name):
+        stop_if_another_began(f"store {name}", name)
         store = make_settings(name)
         if not files_of_store(store_file(name)):
             make_empty(name)

@@ -98,7 +98,8 @@ def stop_unless_same(found, wanted, what):
     """Compares books by the sums over their rows."""
     differ = sorted(book for book in found.keys() | wanted.keys() if found.get(book) != wanted.get(book))
     if differ:
-        raise Stop(f"{what}: books {', '.join(map(str, differ[:20]))} are not what they were. Nothing was changed")
+        raise Stop(f"{what}: books {', '.join(map(str, differ[:20]))} are not what they were. A file of it was changed or "
+                   "damaged. Nothing was changed by this command")
 
 
 def keep_books(path, wanted):

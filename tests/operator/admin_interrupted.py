@@ -3,6 +3,7 @@ that it runs at that moment. And verbs whose terminal is lost, and another verb 
 begun."""
 import os
 import shlex
+import shutil
 import signal
 import subprocess
 
@@ -139,9 +140,9 @@ def another_verb_in_its_place():
         for words in others[:-1]:
             said = it.admin(*words, wanted=1)
             expect(f"{words}: {said}", "first run it again: `pawnd-admin split main north 8 9`" in said, True)
-        it.store("north")
-        said = it.admin(*others[-1], wanted=1)
-        expect(f"{others[-1]}: {said}", "first run it again: `pawnd-admin split main north 8 9`" in said, True)
+        for words in (("store", "north"), others[-1]):
+            said = it.admin(*words, wanted=1)
+            expect(f"{words}: {said}", "first run it again: `pawnd-admin split main north 8 9`" in said, True)
         it.admin("restore", "main", "newest")
         it.admin("split", "main", "north", 8, 9)
         expect("the books", (books_in(it.path("main")), books_in(it.path("north"))), ({7}, {8, 9}))
@@ -160,5 +161,28 @@ def another_verb_in_its_place():
         expect("what commands left", it.leftovers(), [])
 
 
+def a_copy_that_is_gone():
+    """A book was to be put back out of a copy that is gone by now. No other command begins in the place of this one until it
+    is given up, as the message says."""
+    with Machine() as it:
+        caller = it.book(7, pledges=1)
+        it.admin("copy", "main")
+        older, path = it.place("older"), it.place("etc/pending/restore-7.json")
+        shutil.copytree(it.newest("main"), older)
+        caller.repay()
+        words = "restore-book", 7, older, "back"
+        it.admin_with(*words, PLANT="the_new_store_does_not_start", wanted=1)
+        shutil.rmtree(older)
+        for place in ("back", "north"):
+            said = it.admin("restore-book", 7, it.newest("main"), place, wanted=1)
+            expect(f"into {place}: {said}", f"first run it again: `pawnd-admin {' '.join(map(str, words))}`" in said, True)
+        said = it.admin(*words, wanted=1)
+        expect(f"what it says: {said}", f"give it up: `rm {path}`, then `pawnd-admin store back`" in said, True)
+        caller.look_up()
+        os.unlink(path), it.admin("store", "back")
+        it.admin("restore-book", 7, it.newest("main"), "north")
+        expect("book 7", (it.lines(), caller.entries()), ({7: "north"}, 0))
+
+
 if __name__ == "__main__":
-    main_with(PACKAGES, a_restore, a_removal, a_split, a_lost_terminal, another_verb_in_its_place)
+    main_with(PACKAGES, a_restore, a_removal, a_split, a_lost_terminal, another_verb_in_its_place, a_copy_that_is_gone)

@@ -128,6 +128,11 @@ def the_proxy_and_its_files():
         it.make_certificate(days=5)
         it.admin("reload")
         expect_wrong(it, "the certificate is good for 4 days")
+        with open(it.place("nginx.conf")) as file:
+            whole = file.read()
+        it.write("nginx.conf", whole + "nonsense;\n")
+        expect_wrong(it, "nginx refuses its files", "the certificate is good for 4 days")
+        it.write("nginx.conf", whole)
         it.stop_nginx()
         expect_wrong(it, "nginx does not run", "store main: does not answer through the proxy")
 
@@ -393,8 +398,27 @@ def a_file_of_another_user():
         it.book(7, pledges=1)
         it.admin("copy", "main")
         expect_wrong(it)
+        os.link(it.path("main"), it.place("second"))
+        expect_wrong(it, "has a second name, so it does not start again")
+        os.unlink(it.place("second"))
         os.chown(it.path("main"), 65534, 65534)
         expect_wrong(it, f"`chown -R pawnd-main: {os.path.dirname(it.path('main'))}`")
+
+
+def a_copy_of_another_store_among_its_own():
+    """It is not taken for a copy of this store."""
+    with Machine() as it:
+        it.store("west")
+        it.book(7, pledges=1)
+        it.admin("copy", "main")
+        own = it.newest("main")
+        time.sleep(1.1), it.admin("copy", "west")
+        other = os.path.join(it.copies, "main", os.path.basename(it.newest("west")))
+        shutil.copytree(it.newest("west"), other)
+        found = [one["copy"]["name"] for one in it.status()["stores"] if one["store"] == "main"]
+        expect("the newest copy of main", found, [os.path.basename(own)])
+        said = it.admin("restore", "main", "newest")
+        expect(f"which one is put back: {said}", f"as at {os.path.basename(own)}" in said, True)
 
 
 def services_that_do_not_start_at_boot():
@@ -467,6 +491,7 @@ if __name__ == "__main__":
         a_store_that_is_not_sent,
         a_machine_without_main,
         a_file_of_another_user,
+        a_copy_of_another_store_among_its_own,
         services_that_do_not_start_at_boot,
         a_copy_of_a_replicated_folder_that_is_away,
         a_rule_that_is_gone,
