@@ -555,6 +555,22 @@ def an_equal_payment_that_comes_during_the_question_is_another():
         no_faults()
 
 
+def a_payment_that_was_made_during_the_question_is_named_in_the_refusal():
+    """The pawnor pays on a telephone meanwhile: that nothing more is owed does not say why."""
+    with a_pledge_at_the_counter() as (pages, receipt):
+        browser.says("£100.00 owed today", "#statement")
+        command("Repayment", "Record the repayment", amount="100")
+        browser.says("Record £100.00 as received?", "dialog")
+        paid = pages.session.bearer(receipt, "POST", "/books/7/held/repay", {"pence": 10000, "seq": 1})
+        expect("the pawnor's payment", paid[0], 200)
+        browser.press("dialog button", "Record £100.00")
+        browser.says("That is more than is owed. Owed today: £0.00.", "#commands")
+        happened = f"Since this pledge was shown here, this happened: Repaid: £100.00, on {in_short(today())}."
+        browser.says(happened, "#commands")
+        expect("one entry", len(entries(pages, 1)), 1)
+        no_faults()
+
+
 def redemption_by_the_paper():
     with an_open_book() as pages:
         receipt, link = take_a_ring()
@@ -978,7 +994,8 @@ main(
         a_declaration_that_was_not_sent_does_not_have_the_lost_receipt_printed,
         a_paper_is_made_of_the_pledge_as_it_is_now, no_tag_is_made_of_a_pledge_that_is_over,
         a_receipt_that_another_till_replaced_is_not_called_live_any_more,
-        an_equal_payment_that_comes_during_the_question_is_another, redemption_by_the_paper,
+        an_equal_payment_that_comes_during_the_question_is_another,
+        a_payment_that_was_made_during_the_question_is_named_in_the_refusal, redemption_by_the_paper,
         a_redemption_that_the_browser_sends_twice_is_told, a_sale_that_the_browser_sends_twice_is_told,
         a_sale_is_not_recorded_where_the_pledge_changed_during_the_question,
         a_visit_that_is_changed_during_the_question_is_not_refused_unseen,

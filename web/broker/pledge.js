@@ -201,7 +201,7 @@ class Desk {
 
   /**
    * Runs an act on the pledge, shows the pledge as it is then, and reports the result; and what others recorded
-   * meanwhile, unless the act records an entry: then it has asked about that.
+   * meanwhile. An act that records an entry has asked about that, unless a refusal came before its question.
    */
   async perform(act, { form, notice: line, title }, isEntry = false) {
     const { number, statement: shown } = this;
@@ -233,7 +233,8 @@ class Desk {
       return;
     }
     this.saidOn = today();
-    const more = isEntry || fault instanceof Outdated ? "" : othersInWords(shown, this.statement);
+    const isAsked = fault instanceof Outdated || (isEntry && !(fault instanceof Refused));
+    const more = isAsked ? "" : othersInWords(shown, this.statement);
     sayAfter({
       within: byId("commands"), notice: this.notice, title: place, fields, said, fault, reader: "broker", more,
     });
