@@ -322,6 +322,23 @@ def a_paper_with_an_end_that_another_till_moved_is_not_printed():
         no_faults()
 
 
+def a_receipt_that_died_while_the_tag_was_shown_is_not_shown_again():
+    with an_open_book() as pages:
+        the_book_is_read()
+        take_a_ring()
+        browser.press("#taken-receipt button", "Show the tag for the bag")
+        browser.press("#taken-receipt button", "Show the receipt")
+        browser.rests()
+        browser.says("Its receipt is ready to print.", "#taking .notice")
+        browser.press("#taken-receipt button", "Show the tag for the bag")
+        declare(pages, 1)
+        browser.press("#taken-receipt button", "Show the receipt")
+        browser.says(f"{DEAD}: a newer one took its place", "#taking .notice")
+        there_is_no_paper()
+        browser.until("return document.activeElement.matches('#taking .notice')", "the focus on the reason")
+        no_faults()
+
+
 def a_tag_with_an_end_that_another_till_moved_is_not_printed():
     """The other till is told to print the tag anew, and the first one still shows the old tag."""
     with a_pledge_at_the_counter() as (pages, _):
@@ -988,6 +1005,7 @@ main(
         a_receipt_that_was_redeemed_is_not_left_to_be_printed, a_receipt_with_the_old_end_is_not_left_to_be_printed,
         a_receipt_that_another_till_replaced_is_not_left_to_be_printed, a_dead_receipt_is_not_printed_by_its_button,
         a_paper_with_an_end_that_another_till_moved_is_not_printed,
+        a_receipt_that_died_while_the_tag_was_shown_is_not_shown_again,
         a_tag_with_an_end_that_another_till_moved_is_not_printed,
         a_pledge_that_changed_since_its_paper_was_made_is_shown_as_it_is_now,
         a_form_that_was_begun_stays_where_its_pledge_changed,
