@@ -9,9 +9,9 @@ from tests.library.dates import six_months_after, today
 from tests.library.keys import BROKER
 from tests.library.pages.browser import Pages
 from tests.library.pages.steps import (
-    a_pledge_at_the_counter, a_pledge_by_its_receipt, ago, an_open_book, book_text, browser, close_the_book, command,
-    fill_book, find, in_short, in_words, main, make_book, no_faults, open_book, part, secret_of, the_book_is_read,
-    unfold,
+    WRONG_SECRET, a_pledge_at_the_counter, a_pledge_by_its_receipt, ago, an_open_book, book_text, browser,
+    close_the_book, command, fill_book, find, in_short, in_words, main, make_book, no_faults, open_book, part,
+    secret_of, the_book_is_read, unfold,
 )
 from tests.library.waiting import wait_for
 
@@ -270,6 +270,137 @@ def what_is_searched_for_during_a_search_is_found():
         expect("the pledge", browser.text("#statement h2"), "Silver watch")
         expect("the address", browser.run("return location.hash"), "#pledge=2")
         browser.says("This receipt is live. £100.00 is owed today.", "#commands")
+        no_faults()
+
+
+# Each reply to a look at a pledge comes only once it is let go, in the order in which the looks were sent.
+EACH_SLOW = """
+const real = window.fetch;
+window.held = [];
+window.letOne = () => window.held.shift()();
+window.fetch = async (path, how) => {
+  if (how.method !== "GET" || !/\\/(held|pledges\\/[0-9]+)$/.test(path)) return real(path, how);
+  const reply = real(path, how);
+  await new Promise((go) => { window.held.push(go); });
+  return reply;
+};
+window.endSlow = () => {
+  window.fetch = real;
+  window.held.forEach((go) => go());
+};"""
+NOT_SLOW = "window.endSlow()"
+ENTER = "\ue007"
+SEARCH = "#find-wanted"
+
+
+def let_one():
+    browser.until("return window.held.length > 0", "a reply that is late")
+    browser.run("window.letOne()")
+
+
+def scan(text):
+    browser.keys(text + ENTER)
+
+
+def typed_to_find():
+    return browser.run(f"return document.querySelector('{SEARCH}').value")
+
+
+def at_the_search(pages):
+    """Two pledges and their receipts, with the focus in the field of the search and each look slow."""
+    receipts = two_pledges(pages)
+    part("pledge")
+    browser.until("return document.activeElement.matches('#pledge h1')", "the heading")
+    browser.run(EACH_SLOW)
+    browser.run(f"document.querySelector('{SEARCH}').focus()")
+    return receipts
+
+
+def nothing_is_shown_yet(what):
+    """Nothing of an earlier search is shown, and the page says that it waits."""
+    shown = browser.run(
+        "return [document.querySelector('#found').checkVisibility(), "
+        "document.querySelector('#pledge').innerText.includes('receipt is live'), "
+        "document.querySelector('#finding .notice').textContent]"
+    )
+    expect(what, shown, [False, False, "One moment…"])
+
+
+def a_scan_stays_whole_where_the_last_search_ends_during_it():
+    """By an answer and by a refusal: neither takes the focus from the field, and the scan replaces the old text."""
+    with Pages() as pages:
+        first, second = at_the_search(pages)
+        for sought, says, where in (
+            (first, "This receipt is live.", "#commands"), ("999", "The book has no pledge of that", "#finding"),
+        ):
+            scan(sought)
+            browser.until("return window.held.length > 0", "a reply that is late")
+            browser.keys(second[:20])
+            let_one()
+            browser.says(says, where)
+            expect(f"what is typed during the search for {sought}", typed_to_find(), second[:20])
+            scan(second[20:])
+            expect(f"what is typed after the search for {sought}", typed_to_find(), second)
+            nothing_is_shown_yet(f"during the search after {sought}")
+            let_one()
+            browser.says("This receipt is live.", "#commands")
+            browser.says("Silver watch", "#statement")
+            redeemed = browser.run("return document.querySelector('.action[open] [name=receipt]').value")
+            expect("the receipt that redeems", redeemed, second)
+            browser.run(f"document.querySelector('{SEARCH}').focus(); document.querySelector('{SEARCH}').select()")
+        no_faults()
+
+
+def of_a_search_that_another_overtakes_nothing_is_shown():
+    """Only the last one has its answer or its refusal, and has it at once."""
+    dead = f"2-{WRONG_SECRET}"
+    with Pages() as pages:
+        first, second = at_the_search(pages)
+        for sought, then, says, where in (
+            (first, dead, "This receipt is not live", "#commands"),
+            ("1", "999", "The book has no pledge of that number or reference.", "#finding"),
+            (first, "999", "The book has no pledge of that number or reference.", "#finding"),
+            (first, second, "This receipt is live.", "#commands"),
+        ):
+            scan(sought)
+            browser.until("return window.held.length === 1", "the first look")
+            scan(then)
+            expect("what is typed", typed_to_find(), then)
+            browser.until("return window.held.length === 2", "the second look", patience=3)
+            let_one()
+            browser.run_later("await new Promise((go) => { setTimeout(go, 300); })")
+            nothing_is_shown_yet(f"the search for {sought} is over, that for {then} is not")
+            browser.run(NOT_SLOW)
+            browser.says(says, where)
+            if where == "#commands":
+                browser.says("Silver watch", "#statement")
+            browser.run(EACH_SLOW)
+            browser.run(f"document.querySelector('{SEARCH}').focus(); document.querySelector('{SEARCH}').select()")
+        no_faults()
+
+
+def a_refusal_is_said_where_it_comes_before_the_reply_to_the_search_before():
+    with Pages() as pages:
+        first, _ = at_the_search(pages)
+        scan(first)
+        browser.until("return window.held.length === 1", "the first look")
+        scan("zzz")
+        browser.says("The book has no pledge of that number or reference.", "#finding")
+        let_one()
+        browser.run_later("await new Promise((go) => { setTimeout(go, 300); })")
+        browser.says("The book has no pledge of that number or reference.", "#finding")
+        expect("a pledge is shown", browser.run("return document.querySelector('#found').checkVisibility()"), False)
+        no_faults()
+
+
+def two_receipts_that_were_scanned_into_one_text_are_called_so():
+    """Also where a part of both looks like the receipt of a third pledge."""
+    with Pages() as pages:
+        first, second = two_pledges(pages)
+        like_a_third = "12-00000000-0000-4123-8000-000000000000" "1234-00000000-0000-4000-8000-000000000000"
+        for typed in (first + second, like_a_third):
+            find(typed)
+            browser.says("That is more than one receipt. Scan or type one at a time.", "#finding")
         no_faults()
 
 
@@ -825,7 +956,10 @@ main(
         an_article_that_was_sold_meanwhile_is_told, a_redemption_whose_reply_was_lost_is_pressed_again,
         a_redemption_that_never_arrived_is_done_by_the_next_press,
         a_redemption_after_which_nothing_can_be_looked_at_says_what_to_do, the_pledge_that_was_asked_for_last_is_shown,
-        what_is_searched_for_during_a_search_is_found, what_came_of_an_act_is_not_said_of_another_pledge,
+        what_is_searched_for_during_a_search_is_found, a_scan_stays_whole_where_the_last_search_ends_during_it,
+        of_a_search_that_another_overtakes_nothing_is_shown,
+        a_refusal_is_said_where_it_comes_before_the_reply_to_the_search_before,
+        two_receipts_that_were_scanned_into_one_text_are_called_so, what_came_of_an_act_is_not_said_of_another_pledge,
         what_can_still_be_drawn_is_told, a_receipt_of_a_pledge_that_is_over_says_who_has_the_article,
         a_written_statement_is_not_asked_for_above_the_small_credit, a_receipt_that_is_not_whole_is_counted,
         the_field_of_the_search_names_no_other_pledge, a_visit_at_a_time_that_is_over_is_asked_about,

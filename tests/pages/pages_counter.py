@@ -322,6 +322,23 @@ def a_paper_with_an_end_that_another_till_moved_is_not_printed():
         no_faults()
 
 
+def a_receipt_that_died_while_the_tag_was_shown_is_not_shown_again():
+    with an_open_book() as pages:
+        the_book_is_read()
+        take_a_ring()
+        browser.press("#taken-receipt button", "Show the tag for the bag")
+        browser.press("#taken-receipt button", "Show the receipt")
+        browser.rests()
+        browser.says("Its receipt is ready to print.", "#taking .notice")
+        browser.press("#taken-receipt button", "Show the tag for the bag")
+        declare(pages, 1)
+        browser.press("#taken-receipt button", "Show the receipt")
+        browser.says(f"{DEAD}: a newer one took its place", "#taking .notice")
+        there_is_no_paper()
+        browser.until("return document.activeElement.matches('#taking .notice')", "the focus on the reason")
+        no_faults()
+
+
 def a_tag_with_an_end_that_another_till_moved_is_not_printed():
     """The other till is told to print the tag anew, and the first one still shows the old tag."""
     with a_pledge_at_the_counter() as (pages, _):
@@ -552,6 +569,22 @@ def an_equal_payment_that_comes_during_the_question_is_another():
         browser.press("dialog button", "Record £30.00")
         browser.says("That is more than is owed. Owed today: £10.00.", "#commands")
         expect("three entries", len(entries(pages, 1)), 3)
+        no_faults()
+
+
+def a_payment_that_was_made_during_the_question_is_named_in_the_refusal():
+    """The pawnor pays on a telephone meanwhile: that nothing more is owed does not say why."""
+    with a_pledge_at_the_counter() as (pages, receipt):
+        browser.says("£100.00 owed today", "#statement")
+        command("Repayment", "Record the repayment", amount="100")
+        browser.says("Record £100.00 as received?", "dialog")
+        paid = pages.session.bearer(receipt, "POST", "/books/7/held/repay", {"pence": 10000, "seq": 1})
+        expect("the pawnor's payment", paid[0], 200)
+        browser.press("dialog button", "Record £100.00")
+        browser.says("That is more than is owed. Owed today: £0.00.", "#commands")
+        happened = f"Since this pledge was shown here, this happened: Repaid: £100.00, on {in_short(today())}."
+        browser.says(happened, "#commands")
+        expect("one entry", len(entries(pages, 1)), 1)
         no_faults()
 
 
@@ -972,13 +1005,15 @@ main(
         a_receipt_that_was_redeemed_is_not_left_to_be_printed, a_receipt_with_the_old_end_is_not_left_to_be_printed,
         a_receipt_that_another_till_replaced_is_not_left_to_be_printed, a_dead_receipt_is_not_printed_by_its_button,
         a_paper_with_an_end_that_another_till_moved_is_not_printed,
+        a_receipt_that_died_while_the_tag_was_shown_is_not_shown_again,
         a_tag_with_an_end_that_another_till_moved_is_not_printed,
         a_pledge_that_changed_since_its_paper_was_made_is_shown_as_it_is_now,
         a_form_that_was_begun_stays_where_its_pledge_changed,
         a_declaration_that_was_not_sent_does_not_have_the_lost_receipt_printed,
         a_paper_is_made_of_the_pledge_as_it_is_now, no_tag_is_made_of_a_pledge_that_is_over,
         a_receipt_that_another_till_replaced_is_not_called_live_any_more,
-        an_equal_payment_that_comes_during_the_question_is_another, redemption_by_the_paper,
+        an_equal_payment_that_comes_during_the_question_is_another,
+        a_payment_that_was_made_during_the_question_is_named_in_the_refusal, redemption_by_the_paper,
         a_redemption_that_the_browser_sends_twice_is_told, a_sale_that_the_browser_sends_twice_is_told,
         a_sale_is_not_recorded_where_the_pledge_changed_during_the_question,
         a_visit_that_is_changed_during_the_question_is_not_refused_unseen,

@@ -5,7 +5,7 @@
 import { clockOf, now, onClock } from "../shared/clock.js";
 import { today } from "../shared/days.js";
 import { byId } from "../shared/dom.js";
-import { explainWaiting, onSend, tell } from "../shared/forms.js";
+import { explainWaiting, moveFocus, onSend, tell } from "../shared/forms.js";
 import { startPage } from "../shared/start.js";
 import { dateOf, minutesSince, setUpAge, showAge, waitingInWords } from "./age.js";
 import { setUpAll, showAll } from "./all.js";
@@ -107,7 +107,7 @@ async function showPart({ focus }) {
   clearElsewhere();
   mark(name);
   const heading = putTitle({ name, detail });
-  if (focus) heading.focus();
+  if (focus) moveFocus(heading);
   if (name !== "pledge") {
     clearChoices();
     leavePledge();

@@ -3,7 +3,7 @@
  * alone knows numbers and receipts, so they wait for no book; a reference is looked for in the book.
  */
 import { byId, foreign, make } from "../shared/dom.js";
-import { onSearch } from "../shared/forms.js";
+import { moveFocus, onSearch } from "../shared/forms.js";
 import { isReceiptLike, pledgeTyped, whyNotWhole } from "../shared/receipts.js";
 import { Unreadable } from "../shared/unreadable.js";
 import { ledger } from "./ledger.js";
@@ -44,7 +44,7 @@ async function findNumber(wanted, number, begun) {
   const others = ledger.withReference(wanted).filter((pledge) => pledge.number !== number);
   if (statement === null) return others.length > 0 ? offer(others, null, begun) : findReference(wanted, begun);
   if (others.length > 0) return offer(others, number, begun);
-  opened = ledger.book === null ? { wanted, number } : null;
+  if (ledger.book === null && !hasGoneOn(begun)) opened = { wanted, number };
   return goTo(number, begun, { statement });
 }
 
@@ -69,23 +69,19 @@ async function offer(found, number, begun) {
   if (hasGoneOn(begun)) return { sentence: "More than one pledge can be meant. Press Find to choose.", tone: "quiet" };
   byId("found").hidden = true;
   showChoices(meant);
-  byId("choices").querySelector("a").focus();
+  moveFocus(byId("choices").querySelector("a"));
   return { sentence: "More than one pledge can be meant.", tone: "quiet" };
 }
 
-/** Finds what was typed. Where that fails no other pledge, found before, stays in its place. */
+/** Finds what was typed. No pledge that was found before stays below it, nor is one shown that is still being read. */
 async function find({ wanted: typed }) {
   const wanted = typed.trim();
   const begun = startOfSearch();
   clearChoices();
-  try {
-    if (isReceiptLike(wanted)) return await openReceipt(wanted, begun);
-    const number = pledgeTyped(wanted);
-    return await (number ? findNumber(wanted, number, begun) : findReference(wanted, begun));
-  } catch (fault) {
-    if (!hasGoneOn(begun)) hidePledge();
-    throw fault;
-  }
+  hidePledge();
+  if (isReceiptLike(wanted)) return openReceipt(wanted, begun);
+  const number = pledgeTyped(wanted);
+  return number ? findNumber(wanted, number, begun) : findReference(wanted, begun);
 }
 
 /** Once the book is read, the pledges are offered that have the number as their reference. */

@@ -117,11 +117,14 @@ export async function refuseOld({ receipt, statement }, begun) {
   if (saidOf(now) !== saidOf(statement)) throw new Unreadable(CHANGED);
 }
 
+const SEVERAL = "That is more than one receipt. Scan or type one at a time.";
+
 /** The one receipt that was typed or scanned, of this book. */
 export function readReceipt(typed, field, none) {
   const receipts = receiptsTyped(typed);
   const why = receipts.length === 0 && whyNotWhole(typed, { orReference: false });
-  if (receipts.length !== 1) throw new Unreadable(why ? `That is no whole receipt. ${why}` : none, field);
+  if (receipts.length > 1) throw new Unreadable(SEVERAL, field);
+  if (receipts.length === 0) throw new Unreadable(why ? `That is no whole receipt. ${why}` : none, field);
   const [{ book, receipt }] = receipts;
   if (book && book !== current().book) throw new Unreadable(
     `That receipt is of book ${book}, and this is book ${current().book}. If book ${current().book} was filled from a `

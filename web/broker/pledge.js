@@ -5,7 +5,7 @@ import { inShort, today } from "../shared/days.js";
 import { byId, foreign, make } from "../shared/dom.js";
 import { CHANGED, Outdated, Refused } from "../shared/faults.js";
 import {
-  buttons, fieldsOf, foldOf, makeNotice, outcomeOf, redrawFolds, run, sayAfter, tell, tellLater,
+  buttons, fieldsOf, foldOf, makeNotice, moveFocus, outcomeOf, redrawFolds, run, sayAfter, tell, tellLater,
 } from "../shared/forms.js";
 import { inPounds } from "../shared/money.js";
 import { othersInWords } from "../shared/payments.js";
@@ -25,7 +25,7 @@ import { receiptSheet, recheckPaper } from "./receipt.js";
 import { REDEEM } from "./redeem.js";
 import { askBook, askHeld, current, refuseOther } from "./session.js";
 
-const ONE = "That is no whole receipt, or more than one. Scan or type one at a time.";
+const ONE = "That is no whole receipt.";
 const ANOTHER = "Another pledge was opened meanwhile, so the receipt is not shown: “Print the receipt again” shows it.";
 
 /** The pledge that is shown, and what the forms of its commands use. */
@@ -201,7 +201,7 @@ class Desk {
 
   /**
    * Runs an act on the pledge, shows the pledge as it is then, and reports the result; and what others recorded
-   * meanwhile, unless the act records an entry: then it has asked about that.
+   * meanwhile. An act that records an entry has asked about that, unless a refusal came before its question.
    */
   async perform(act, { form, notice: line, title }, isEntry = false) {
     const { number, statement: shown } = this;
@@ -233,7 +233,8 @@ class Desk {
       return;
     }
     this.saidOn = today();
-    const more = isEntry || fault instanceof Outdated ? "" : othersInWords(shown, this.statement);
+    const isAsked = fault instanceof Outdated || (isEntry && !(fault instanceof Refused));
+    const more = isAsked ? "" : othersInWords(shown, this.statement);
     sayAfter({
       within: byId("commands"), notice: this.notice, title: place, fields, said, fault, reader: "broker", more,
     });
@@ -360,7 +361,7 @@ class Desk {
   sayMessage() {
     const said = this.message?.number === this.number ? this.message : null;
     if (said === null) {
-      if (!byId("found").contains(document.activeElement)) byId("statement").querySelector("h2").focus();
+      if (!byId("found").contains(document.activeElement)) moveFocus(byId("statement").querySelector("h2"));
       return;
     }
     this.message = null;
@@ -372,7 +373,7 @@ class Desk {
     }
     [this.saidOn, this.ofReceipt] = [today(), said.message];
     tell(this.notice, said.message, said.tone);
-    this.notice.focus();
+    moveFocus(this.notice);
     tellLater(this.notice, said);
   }
 }
@@ -392,21 +393,30 @@ export function clearPledge() {
   byId("finding").reset();
 }
 
-/** Where the clerk is when a search begins: what it finds is opened only if the clerk is still there. */
-export const startOfSearch = () => ({ session: current(), hash: location.hash });
+/** The search that began last. One that it has overtaken shows and opens nothing any more. */
+let lastSearch = null;
 
-/** Whether the clerk has gone to another part, pledge or book since a search began. */
-export const hasGoneOn = ({ session, hash }) => session !== current() || hash !== location.hash;
+/** Where the clerk is when a search begins: what it finds is opened only if the clerk is still there. */
+export function startOfSearch() {
+  lastSearch = { session: current(), hash: location.hash };
+  return lastSearch;
+}
+
+/** Whether the clerk has gone to another part, pledge or book since a search began, or has begun another search. */
+export const hasGoneOn = (begun) =>
+  begun !== lastSearch || begun.session !== current() || begun.hash !== location.hash;
 
 const NOT_OPENED = "It was found after you had gone on, so it was not opened.";
 
 /**
  * Goes to a pledge that a search found, by the address; or shows it as it is now, if the page is there already. Its
  * statement may have been read just now; `paper` and `message` are those of the desk, if it was found by its receipt.
- * If the clerk has gone on meanwhile, it says so and goes nowhere. The empty form is no place to go back to.
+ * If the clerk has gone on meanwhile, it says so and goes nowhere; after a search that another one overtook, it says
+ * nothing. The empty form is no place to go back to.
  */
 export async function goTo(number, begun, { statement = null, ...more } = {}) {
   const hash = `#pledge=${number}`;
+  if (begun !== lastSearch) return "";
   if (hasGoneOn(begun) && !(begun.session === current() && location.hash === hash)) {
     if (begun.session === current()) sayElsewhere({ hash, name: `Pledge ${number}`, text: NOT_OPENED, tone: "quiet" });
     return "";

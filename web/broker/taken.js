@@ -5,7 +5,7 @@ import { termsInWords } from "../shared/terms.js";
 import { tellInUse } from "./inuse.js";
 import { ledger } from "./ledger.js";
 import { heldBy } from "./reading.js";
-import { receiptSheet } from "./receipt.js";
+import { receiptSheet, recheckPaper } from "./receipt.js";
 import { refuseOther } from "./session.js";
 import { tagOf } from "./tag.js";
 
@@ -33,13 +33,20 @@ async function termsTaken(number, before) {
 
 const TURNS = { tag: "Show the tag for the bag", receipt: "Show the receipt" };
 
-/** The receipt, and in its place the tag once a button asks for it: one paper is shown, and printed, at a time. */
-function inTurn(receipt, tag) {
+/**
+ * The receipt, and in its place the tag once a button asks for it: one paper is shown, and printed, at a time. When the
+ * receipt is shown again, its pledge is read again; `notice` says why the receipt is taken away then.
+ */
+function inTurn(receipt, tag, notice) {
   const turn = make("button", { type: "button", className: "plain screen" }, TURNS.tag);
   tag.hidden = true;
   turn.addEventListener("click", () => {
     [tag.hidden, receipt.hidden] = [receipt.hidden, tag.hidden];
     turn.textContent = tag.hidden ? TURNS.tag : TURNS.receipt;
+    if (tag.hidden) recheckPaper(receipt.parentElement).then(() => {
+      // The focus was on the button, which is taken away with the receipt.
+      if (!turn.isConnected && document.activeElement === document.body) notice.focus();
+    });
   });
   return [turn, receipt, tag];
 }
@@ -86,6 +93,7 @@ export async function settle({ opening, said, known, before, asked, begun, notic
   byId("taken-receipt").append(
     ...inTurn(
       receiptSheet({ statement: held, receipt: said.receipt, known: beside, said: notice }), tagOf(held, beside),
+      notice,
     )
   );
   return toldOf(held, terms, asked);

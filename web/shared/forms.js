@@ -41,6 +41,18 @@ function clearMarks(within) {
 
 let explained = () => null;
 
+/** Fields of searches into which something was typed since their forms were sent. */
+const typedInto = new WeakSet();
+
+/** Whether a search is being typed or scanned into its field. */
+const isSearchTyped = () =>
+  typedInto.has(document.activeElement) && document.activeElement.offsetParent !== null;
+
+/** Moves the focus, unless a search is being typed: the rest of a scan would be lost. */
+export function moveFocus(target, options) {
+  if (!isSearchTyped()) target.focus(options);
+}
+
 /** Has a wait explained: the function returns a sentence, or null if it has none. */
 export const explainWaiting = (explain) => { explained = explain; };
 
@@ -120,9 +132,9 @@ export async function run({ notice, within, reader, act, about = null, mayBeOver
     tellLater(notice, fault);
   } else tell(notice, said?.sentence ?? said ?? "", said?.tone ?? "good");
   const target = field?.isConnected ? field : notice;
-  if (notice.textContent && target.isConnected) target.focus({ preventScroll: false });
+  if (notice.textContent && target.isConnected) moveFocus(target, { preventScroll: false });
   // What is scanned or typed next takes the place of what was not found.
-  if (mayBeOvertaken) field?.select();
+  if (mayBeOvertaken && !isSearchTyped()) field?.select();
   return fault;
 }
 
@@ -141,23 +153,20 @@ export function onSend(form, reader, act) {
 }
 
 /**
- * The same for an act that only looks for something: the form stays in use, and what was sent last meanwhile is looked
- * for once the act under way is over.
+ * The same for an act that only looks for something: the form stays in use, and what is sent next overtakes the act
+ * that is under way. What was sent is selected, so that the next scan takes its place.
  */
 export function onSearch(form, reader, act) {
   const notice = form.querySelector(".notice") ?? form.appendChild(makeNotice());
-  let [isUnderWay, next] = [false, null];
-  form.addEventListener("submit", async (event) => {
+  form.addEventListener("input", ({ target }) => typedInto.add(target));
+  form.addEventListener("submit", (event) => {
     event.preventDefault();
-    next = fieldsOf(form);
-    if (isUnderWay) return;
-    isUnderWay = true;
-    while (next !== null) {
-      const fields = next;
-      next = null;
-      await run({ notice, within: form, reader, act: () => act(fields), mayBeOvertaken: true });
+    for (const one of form.elements) {
+      typedInto.delete(one);
+      if (one === document.activeElement) one.select?.();
     }
-    isUnderWay = false;
+    const fields = fieldsOf(form);
+    run({ notice, within: form, reader, act: () => act(fields), mayBeOvertaken: true });
   });
   return notice;
 }
@@ -224,14 +233,14 @@ export function sayAfter({ within, notice, title, fields, said, fault, reader, m
   const text = more ? `${result} ${more}` : result;
   if (tone === "good" || !details) {
     tell(notice, text, tone);
-    return notice.focus();
+    return moveFocus(notice);
   }
   const form = details.querySelector("form");
   const line = form.querySelector(".notice");
   details.open = true;
   fillAgain(form, fields);
   tell(line, text, tone);
-  return (markField(form, line, fault && fieldOf(fault)) ?? line).focus();
+  return moveFocus(markField(form, line, fault && fieldOf(fault)) ?? line);
 }
 
 /** A field of a form with its label above it, and with a hint under it if there is one. */

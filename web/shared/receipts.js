@@ -6,6 +6,10 @@ const DASHES = /[\u2010-\u2015\u2212\u00ad\ufe58\ufe63\uff0d]/g;
 const UNSEEN = /[\u200b-\u200f\u202a-\u202e\u2060\u2066-\u2069\ufeff{}]|urn:uuid:/gi;
 /** A number and 32 digits, with blanks or hyphens between them and anywhere among the digits. */
 const RECEIPT = /(?:^|[^0-9a-z])([1-9]\d{0,8})[\s-]+((?:[0-9a-f][\s-]*){31}[0-9a-f])(?![0-9a-z])/gi;
+/** A receipt as the service writes it. */
+const WHOLE = "[1-9]\\d{0,8}-[0-9a-f]{8}(?:-[0-9a-f]{4}){3}-[0-9a-f]{12}";
+/** One that another follows at once: a field took two scans as one text. */
+const RUN_TOGETHER = new RegExp(`(${WHOLE})(?=${WHOLE})`, "gi");
 const BOOK = /^[1-9]\d{0,8}$/;
 const BOOK_TYPED = /^\W*(?:book)?\W*(?:no|number)?\W*([1-9]\d{0,8})\W*$/i;
 const PLEDGE_TYPED = /^(?:#|pledge\b)?\s*0*([1-9]\d{0,8})$/i;
@@ -34,7 +38,8 @@ export const plain = (text) => text.normalize("NFKC").replace(UNSEEN, "").replac
 
 /** The receipts that a text contains, in the service's own spelling. */
 export function receiptsIn(text) {
-  return [...plain(text).matchAll(RECEIPT)].map(([, number, digits]) => written(number, digits));
+  const apart = plain(text).replace(RUN_TOGETHER, "$1 ");
+  return [...apart.matchAll(RECEIPT)].map(([, number, digits]) => written(number, digits));
 }
 
 /**
