@@ -379,6 +379,21 @@ def of_a_search_that_another_overtakes_nothing_is_shown():
         no_faults()
 
 
+def a_key_that_is_held_down_looks_once():
+    with Pages() as pages:
+        first, _ = at_the_search(pages)
+        scan(first + 5 * ENTER)
+        browser.until("return window.held.length > 0", "the look")
+        browser.run_later("await new Promise((go) => { setTimeout(go, 300); })")
+        expect("how many looks", browser.run("return window.held.length"), 1)
+        browser.run(NOT_SLOW)
+        let_one()
+        browser.says("This receipt is live.", "#commands")
+        scan(first)
+        browser.says("This receipt is live.", "#commands")
+        no_faults()
+
+
 def a_refusal_is_said_where_it_comes_before_the_reply_to_the_search_before():
     with Pages() as pages:
         first, _ = at_the_search(pages)
@@ -958,6 +973,7 @@ main(
         a_redemption_after_which_nothing_can_be_looked_at_says_what_to_do, the_pledge_that_was_asked_for_last_is_shown,
         what_is_searched_for_during_a_search_is_found, a_scan_stays_whole_where_the_last_search_ends_during_it,
         of_a_search_that_another_overtakes_nothing_is_shown,
+        a_key_that_is_held_down_looks_once,
         a_refusal_is_said_where_it_comes_before_the_reply_to_the_search_before,
         two_receipts_that_were_scanned_into_one_text_are_called_so, what_came_of_an_act_is_not_said_of_another_pledge,
         what_can_still_be_drawn_is_told, a_receipt_of_a_pledge_that_is_over_says_who_has_the_article,

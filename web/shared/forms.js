@@ -158,15 +158,21 @@ export function onSend(form, reader, act) {
  */
 export function onSearch(form, reader, act) {
   const notice = form.querySelector(".notice") ?? form.appendChild(makeNotice());
+  let sought = null;
   form.addEventListener("input", ({ target }) => typedInto.add(target));
-  form.addEventListener("submit", (event) => {
+  form.addEventListener("submit", async (event) => {
     event.preventDefault();
     for (const one of form.elements) {
       typedInto.delete(one);
       if (one === document.activeElement) one.select?.();
     }
     const fields = fieldsOf(form);
-    run({ notice, within: form, reader, act: () => act(fields), mayBeOvertaken: true });
+    const text = JSON.stringify(fields);
+    // Enter that is held down sends the form many times.
+    if (text === sought) return;
+    sought = text;
+    await run({ notice, within: form, reader, act: () => act(fields), mayBeOvertaken: true });
+    if (text === sought) sought = null;
   });
   return notice;
 }
