@@ -5,6 +5,7 @@ import datetime
 import json
 import os
 import re
+import shlex
 import shutil
 import sqlite3
 import stat
@@ -55,7 +56,8 @@ def entered_while_a_copy_is_checked():
     """It is not in the copy, which is named by the time at which it was begun: what brokers enter again after a loss."""
     with Machine() as it:
         caller = it.book(7, pledges=1)
-        it.write("slow", f'#!/bin/sh\n[ "$1" != check ] || {{ touch {it.place("checked")}; sleep 2; }}\nexec {PROGRAM} "$@"\n', 0o755)
+        waits = f'[ "$1" != check ] || {{ touch {it.place("checked")}; sleep 2; }}'
+        it.write("slow", f'#!/bin/sh\n{waits}\nexec {shlex.quote(PROGRAM)} "$@"\n', 0o755)
         running = subprocess.Popen(
             [ADMIN, "copy", "main"], env={**it.environment, "PAWND": it.place("slow")}, stdin=subprocess.DEVNULL,
             stdout=subprocess.DEVNULL,
@@ -148,7 +150,7 @@ def a_check_that_says_nothing_of_the_store():
             ("echo 'fault 492 Store' >&2; exit 1", "the disk of", "is damaged"),
             ("echo 'fault 501 OldSchema' >&2; exit 1", "FILES.md, `Moving an older file`", "is damaged"),
         ):
-            it.write("ends", f"#!/bin/sh\n[ $1 != check ] || {{ {ends}; }}\nexec {PROGRAM} \"$@\"\n", 0o755)
+            it.write("ends", f"#!/bin/sh\n[ $1 != check ] || {{ {ends}; }}\nexec {shlex.quote(PROGRAM)} \"$@\"\n", 0o755)
             said = it.admin("copy", "main", wanted=1, PAWND=it.place("ends"))
             expect(f"what it says: {said}", (wanted in said, unwanted in said), (True, False))
             wrong = it.status()["wrong"]

@@ -2,6 +2,7 @@
 of a served store is what SQLite reads of a copy."""
 import json
 import os
+import shlex
 import shutil
 import sqlite3
 import sys
@@ -157,7 +158,7 @@ def books_and_lines():
         it.admin_with("split", "main", "north", 7, PLANT="the_new_store_does_not_start", wanted=1)
         expect_wrong(it, "a command did not end: run it again, `pawnd-admin split main north 7`. Until it has ended, north may "
                      "not be served")
-        it.write("slow", f'#!/bin/sh\n[ "$1" != serve ] || sleep 3\nexec {PROGRAM} "$@"\n', 0o755)
+        it.write("slow", f'#!/bin/sh\n[ "$1" != serve ] || sleep 3\nexec {shlex.quote(PROGRAM)} "$@"\n', 0o755)
         it.admin("split", "main", "north", 7, PAWND=it.place("slow"))
         expect_wrong(it)
         it.admin("restore-book", 7, it.newest("north"), "south")
