@@ -57,8 +57,8 @@ def claim(path, book, where, made, command):
     begun = read_note(path)
     if {**begun, **made, "stores": [where]} != begun:
         raise Stop(
-            f"another command that makes book {book} did not end: `pawnd-admin {begun['command']}`. Run it again to end "
-            f"it. If no such book is wanted, remove {path} and its line in {proxy.BOOKS_MAP}, as long as the store has no "
+            f"another command makes book {book}: `pawnd-admin {begun['command']}`. If it is not at work any more, run it again "
+            f"to end it. If no such book is wanted, remove {path} and its line in {proxy.BOOKS_MAP}, as long as the store has no "
             "such book"
         )
     return {member: begun[member] for member in ("capacity", "key", "name")}

@@ -61,9 +61,6 @@ class Copy:
         if not os.path.exists(self.path):
             raise Stop(f"{folder} is not a whole copy: it has no books.db")
 
-    def has_less_than(self, other):
-        return any(self.counts[it] < other.counts[it] for it in self.counts)
-
     @property
     def is_future(self):
         return time_of(self.made) > utc_now() + SLACK
@@ -98,14 +95,14 @@ def in_the_future(name, future):
     )
 
 
-def unexplained_loss(past):
-    """The last copy that held less than the one before, and that one, as long as no later copy holds as much again."""
+def unexplained_losses(past):
+    """Each copy that held less than the one before, and that one, unless it was put back since, or moved away. That later
+    copies hold as much again says nothing: brokers go on entering."""
     by_name = {it.name: it for it in past}
-    for place, less in reversed(list(enumerate(past))):
+    for place, less in enumerate(past):
         more = by_name.get(less.less_than)
-        if more and all(later.has_less_than(more) for later in past[place + 1:]):
-            return less, more
-    return None
+        if more and all(later.made_of != more.folder for later in past[place + 1:]):
+            yield less, more
 
 
 def removed_books():
@@ -314,12 +311,19 @@ def what_to_do_if_unsound(name, said):
     return f"the store {name} is damaged: OPERATING.md, `{section}`, says what to do"
 
 
+def how_it_lacks(path):
+    """Whether the file of a store is missing, or empty, which the program does not serve. None if it is there."""
+    if not os.path.exists(path):
+        return "missing"
+    return None if os.path.getsize(path) else "empty"
+
+
 def copy(name):
     """The verb `copy`."""
     store, keep = the_store(name), copies_to_keep()
     with alone_with(name):
-        if not os.path.exists(store.path):
-            raise Stop(f"there is no store at {store.path}. Is its disk there? `pawnd-admin restore {name} newest`")
+        if how := how_it_lacks(store.path):
+            raise Stop(f"the file {store.path} is {how}. Is its disk there? `pawnd-admin restore {name} newest`")
         past, future = copies_of(name)
         before = past[-1] if past else None
         try:
@@ -346,13 +350,13 @@ def newest_of_all():
 
 def forget_old(name, keep):
     """Removes the copies beyond the newest ones, but none that has more of a book than all newer copies have: it is
-    the last good copy of that book."""
+    the last good copy of that book. Nor one of a loss that is not explained."""
     past, _ = copies_of(name)
-    covered = {}
+    covered, lost = {}, {it.name for pair in unexplained_losses(past) for it in pair}
     for copy in [*newest_of_all(), *past[-keep:]]:
         cover(covered, copy)
     for copy in reversed(past[:-keep]):
-        if any(it["rows"] > covered.get(book, 0) for book, it in copy.books.items()):
+        if copy.name in lost or any(it["rows"] > covered.get(book, 0) for book, it in copy.books.items()):
             cover(covered, copy)
             continue
         gone = os.path.join(os.path.dirname(copy.folder), PART + "old-" + copy.name)

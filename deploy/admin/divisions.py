@@ -189,6 +189,9 @@ def turn_to_part(book, new, copy, command, path):
         if not is_empty(new) and set(contents_of(Store(new).path).books) != {book}:
             raise Stop(f"the store {new} has other books already: name a new store")
         make_store_of_copy(book, new, copy, command, path)
+    else:
+        # An earlier run has turned the line, or the operator has. It may not have come to the store's units.
+        enable(new)
     proxy.write_stores()
     proxy.turn({book}, new)
     proxy.reload_nginx()

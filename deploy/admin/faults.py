@@ -36,13 +36,13 @@ def faults_of_books(lines, found):
             place = lines.get(book, proxy.store_without_line(name))
             if place == name:
                 continue
-            if book not in lines:
+            if book not in lines and not begun_with(name):
                 wrong.append(f"book {book} is in the store {name} and has no line, so nobody reaches it there: if it "
                              f"belongs there, write the line `{book} {name};` into {proxy.BOOKS_MAP}, then "
                              "`pawnd-admin reload`"
                              + (". The store main has such a book too: see first which of the two is the newer"
                                 if book in (found.get(MAIN) or ()) else ""))
-            elif found.get(place) is not None and book in found[place]:
+            elif book in lines and found.get(place) is not None and book in found[place]:
                 notes.append(f"book {book} is in two stores: {place} answers, and nobody reaches the rows in {name}")
     return wrong, notes
 

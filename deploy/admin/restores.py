@@ -48,11 +48,11 @@ def put_back(name, copy):
         begun = new_time(name)
         later = new_time(name, later_than=begun)
         with services.stopped(store), contextlib.ExitStack() as until_replaced:
+            had = books_before(store)
             old, mark = what_it_has(store, begun, until_replaced)
-            made, had = Copy(named(new, later)), ()
+            made = Copy(named(new, later))
             if old:
                 folder = named(old, mark + begun)
-                had = () if mark else Copy(folder).books
                 counted = "" if mark else f", {in_words(Copy(folder).counts)}"
                 say(f"{folder}: what the store {name} had{counted}. Remove it when nobody misses anything")
             put_in_place(name, made.path, not mark)
@@ -61,6 +61,16 @@ def put_back(name, copy):
     proxy.reload_nginx()
     tell_what_differs(store, copy, had)
     return made
+
+
+def books_before(store):
+    """The books of the files that a stopped store has, sound or not. None if they cannot be read."""
+    if not files_of_store(store.path):
+        return ()
+    with contextlib.suppress(Stop, OSError):
+        if is_plain(store.path):
+            return contents_of(store.path).books
+    return None
 
 
 def what_it_has(store, begun, stack):
@@ -78,8 +88,12 @@ def what_it_has(store, begun, stack):
 
 
 def tell_what_differs(store, copy, had):
-    """Books that the operator may miss, or may not expect. `had` are the books that the store had before."""
+    """Books that the operator may miss, or may not expect. `had` are the books that the store had before, if its files
+    could be read."""
     lines, default = proxy.book_lines(), proxy.store_without_line(store.name)
+    if had is None:
+        warn(f"what the store {store.name} had cannot be read. A book that was made after {copy.made} is missing now, and this "
+             "command cannot name it: ask the brokers")
     for book in sorted(copy.books):
         place = lines.get(book, default)
         if place != store.name:
@@ -88,10 +102,10 @@ def tell_what_differs(store, copy, had):
         # In a copy that was made later, the book had come back already.
         for book in sorted(it.books.keys() & copy.books.keys()) if it.made >= copy.made else ():
             warn(f"book {book} was taken out at {it.made}, and is here again: `pawnd-admin remove-book {book}`")
-    for book in sorted({*lines, *had} - copy.books.keys()):
+    for book in sorted({*lines, *(had or ())} - copy.books.keys()):
         if lines.get(book, default) == store.name:
             warn(f"book {book} is missing now, because it was not in the store {store.name} at {copy.made}: "
-                 f"{how_to_put_back(book, store.name) or 'no copy on this machine has it'}")
+                 f"{how_to_put_back(book, store.name) or 'no copy on this machine has it. Give its number to no other broker'}")
     # On a machine that takes over a store, an empty store of that name may have been copied.
     older = [it for it in copies_of(store.name)[0] if it.made < copy.made and it.books]
     if older and not copy.books:

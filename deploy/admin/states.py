@@ -41,8 +41,8 @@ def newest_copy(name, wrong):
             said = file.read().strip()
         wrong.append(f"it failed its last check, and no copy was made: {said}. Run `pawnd-admin copy {name}`. If it says the "
                      f"same, {copies.what_to_do_if_unsound(name, said)}")
-    if found := copies.unexplained_loss(past):
-        less, more = found
+    if found := list(copies.unexplained_losses(past)):
+        less, more = found[-1]
         wrong.append(
             f"its copy {less.name} held less than the one before, {more.name}: a log may have been lost. Compare them, and "
             f"put the older one back: `pawnd-admin restore {name} {more.name}`. If the store rightly holds less, move "
@@ -102,9 +102,9 @@ def state_of_file(store, state, wrong):
     """What the store holds, and what is wrong with that."""
     if replicas.is_away(store):
         return {}
-    if not os.path.exists(store.path):
-        wrong.append(f"its file {store.path} is missing. Is its disk there? `pawnd-admin restore {store.name} newest`"
-                     if state.get("copy") else f"its file {store.path} is missing, and there is no copy of it. Is its disk "
+    if how := copies.how_it_lacks(store.path):
+        wrong.append(f"its file {store.path} is {how}. Is its disk there? `pawnd-admin restore {store.name} newest`"
+                     if state.get("copy") else f"its file {store.path} is {how}, and there is no copy of it. Is its disk "
                      f"there? If it never was, run the command again that makes it: `pawnd-admin store {store.name}`")
         return {}
     folder, (user, _) = os.path.dirname(store.path), owner_of(store.name)

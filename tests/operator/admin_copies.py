@@ -16,7 +16,7 @@ from tests.library.checks import Failed, expect
 from tests.library.filled_stores import fill_store
 from tests.library.keys import BROKER
 from tests.library.operator.admin_machine import ADMIN, PACKAGES, Caller, Machine, await_load, load
-from tests.library.operator.admin_places import row_counts
+from tests.library.operator.admin_places import books_in, row_counts
 from tests.library.packages import main_with
 from tests.library.paths import PROGRAM, TOP
 from tests.library.waiting import wait_for
@@ -274,6 +274,32 @@ def a_book_that_was_made_after_the_copy():
         caller.look_up()
         said = it.admin("restore", "main", early)
         expect(f"when it is in another store: {said}", "is missing now" in said, False)
+        it.book(11, pledges=1)
+        change_by_hand(it, "UPDATE totals SET principal = principal + 1")
+        said = it.admin("restore", "main", early)
+        told = [line for line in said.splitlines() if "book 11 is missing now" in line]
+        expect(f"where the store was damaged: {said}", ["Give its number to no other broker" in line for line in told], [True])
+        it.systemctl("stop", "pawnd@main")
+        with open(it.path("main"), "r+b") as file:
+            file.write(b"x" * 5000)
+        said = it.admin("restore", "main", early)
+        expect(f"where it could not be read: {said}", "ask the brokers" in said, True)
+
+
+def an_empty_file_is_no_store():
+    """No copy is made of it: that copy would be the newest, and one day the only one."""
+    with Machine() as it:
+        it.book(7, pledges=1)
+        it.admin("copy", "main")
+        it.systemctl("stop", "pawnd@main")
+        for end in ("", "-wal"):
+            os.truncate(it.path("main") + end, 0)
+        said = it.admin("copy", "main", wanted=1)
+        expect(f"what it says: {said}", "is empty" in said and "`pawnd-admin restore main newest`" in said, True)
+        wrong = [line for line in it.status()["wrong"] if "books.db is empty. Is its disk there?" in line]
+        expect(f"what is wrong: {wrong}", len(wrong), 1)
+        it.admin("restore", "main", "newest")
+        expect("its books", books_in(it.path("main")), {7})
 
 
 def a_database_that_is_lost():
@@ -340,15 +366,15 @@ def old_copies_are_removed():
             it.admin("copy", "main")
             redate(it, copies(it)[-1], days_ago(days))
         expect("the last copies, and the last that has book 8", copies(it),
-               sorted([*(name for name in copies(it) if name >= days_ago(4.5)), copies(it)[0]]))
-        expect("how many", len(copies(it)), 4)
+               sorted([*(name for name in copies(it) if name >= days_ago(4.5)), *copies(it)[:2]]))
+        expect("how many, with the first copy after the loss", len(copies(it)), 5)
         expect("the last that has book 8", set(row_counts(it.place("backups/main", copies(it)[0], "books.db"))), {7, 8})
         ahead = days_ago(-3000)
         it.admin("copy", "main")
         redate(it, copies(it)[-1], ahead)
         for _ in range(4):
             again.repay(), it.admin("copy", "main")
-        expect("one from the future is none of the three", (len(copies(it)), ahead in copies(it)), (5, True))
+        expect("one from the future is none of the three", (len(copies(it)), ahead in copies(it)), (6, True))
         expect("nor the newest", it.status()["stores"][0]["copy"]["name"] < ahead, True)
         expect("and status says so", "dated in the future" in str(it.status()["wrong"]), True)
         said = it.admin("restore", "main", "newest", wanted=1)
@@ -507,6 +533,7 @@ if __name__ == "__main__":
         without_its_log_a_copy_is_refused,
         what_stood_there_becomes_a_copy,
         a_book_that_was_made_after_the_copy,
+        an_empty_file_is_no_store,
         a_database_that_is_lost,
         a_link_in_the_place_of_a_store,
         old_copies_are_removed,

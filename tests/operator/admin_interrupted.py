@@ -161,6 +161,25 @@ def another_verb_in_its_place():
         expect("what commands left", it.leftovers(), [])
 
 
+def a_line_that_was_written_by_hand():
+    """The status does not advise it while a command is to be run again. If it was done all the same, the command ends with a
+    store that is served at the next boot, and copied."""
+    with Machine() as it:
+        caller = it.book(7, pledges=1)
+        it.admin("copy", "main")
+        words = "restore-book", 7, it.newest("main"), "back"
+        it.admin_with(*words, PLANT="the_new_store_does_not_start", wanted=1)
+        it.systemctl("unmask", "--runtime", "pawnd@back"), it.systemctl("start", "pawnd@back")
+        it.await_store("back")
+        wrong = it.status()["wrong"]
+        expect(f"what is to be done: {wrong}", ["`pawnd-admin restore-book 7" in line for line in wrong], [True])
+        it.write("etc/books.map", "7 back;\n")
+        it.admin("reload"), caller.repay()
+        it.admin(*words)
+        caller.look_up()
+        expect("what is wrong", [line for line in it.status()["wrong"] if "has no copy" not in line], [])
+
+
 def a_copy_that_is_gone():
     """A book was to be put back out of a copy that is gone by now. No other command begins in the place of this one until it
     is given up, as the message says."""
@@ -185,4 +204,5 @@ def a_copy_that_is_gone():
 
 
 if __name__ == "__main__":
-    main_with(PACKAGES, a_restore, a_removal, a_split, a_lost_terminal, another_verb_in_its_place, a_copy_that_is_gone)
+    main_with(PACKAGES, a_restore, a_removal, a_split, a_lost_terminal, another_verb_in_its_place,
+              a_line_that_was_written_by_hand, a_copy_that_is_gone)

@@ -326,6 +326,11 @@ def a_copy_of_a_store_that_lost_its_log():
         expect_wrong(it, f"store main: holds less than its newest copy, {whole}")
         it.admin("copy", "main")
         expect_wrong(it, f"held less than the one before, {whole}")
+        it.book(9, pledges=4)
+        it.write("etc/pawnd.conf", "KEEP=2\n")
+        for _ in range(4):
+            it.admin("copy", "main")
+            expect_wrong(it, f"held less than the one before, {whole}")
         it.admin("restore", "main", whole)
         caller.look_up()
         expect_wrong(it)
