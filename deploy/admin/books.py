@@ -12,7 +12,7 @@ from copies import removed_books
 from files import read_note, replace_whole, write_note
 from locks import alone, alone_with, alone_with_settings
 from reading import contents_of
-from settings import Stop, Store, book_number, say, store_name, store_names
+from settings import Stop, Store, book_number, conf_of, say, store_name, store_names
 
 
 
@@ -118,7 +118,8 @@ def make_book(number, where, name, capacity, key_to):
     operators_key = services.operators_key()
     made = {"capacity": capacity, "name": name}
     if store_name(where) not in store_names():
-        raise Stop(f"there is no store {where}. Make it first: `pawnd-admin store {where}`")
+        raise Stop(f"there is no store {where}. Make it first: `pawnd-admin store {where}`. If it is on another machine: `echo "
+                   f"ADDRESS=10.0.0.3:8103 >{conf_of(where)}` with its address, then `pawnd-admin reload`")
     store, path = Store(where), begun_file(str(book))
     replicas.stop_if_elsewhere(store, "book")
     words = "book", book, "--store", where, "--name", name, "--capacity", capacity, "--key-to", key_to
