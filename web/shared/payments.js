@@ -44,14 +44,17 @@ function otherChanges(shown, now) {
   return lines;
 }
 
-const owedLine = ({ owed }) => (owed ? `${inPounds(owed.owing)} is owed now.` : "Nothing more is done on this pledge.");
+/** What is owed now on an open pledge. The statement of a closed one has the sum that was owed when it was closed. */
+const owedLine = ({ status, owed }) =>
+  (isOpen(status) ? `${inPounds(owed.owing)} is owed now.` : "Nothing more is done on this pledge.");
 
 const SINCE = "Since this pledge was shown here, this happened:";
 
-/** What others recorded since the pledge was shown, and what is owed now, as a text; or an empty one. */
+/** What others recorded since the pledge was shown, and what is owed now on an open one, as a text; or an empty one. */
 export function othersInWords(shown, now) {
   const entries = now.entries.slice(shown.entries.length);
-  return entries.length > 0 ? [SINCE, ...listed(entries), owedLine(now)].join(" ") : "";
+  if (entries.length === 0) return "";
+  return [SINCE, ...listed(entries), ...(isOpen(now.status) ? [owedLine(now)] : [])].join(" ");
 }
 
 /** The refusal that the pledge, as it was read just now, must bring; or null. */
