@@ -57,6 +57,12 @@ export function othersInWords(shown, now) {
   return [SINCE, ...listed(entries), ...(isOpen(now.status) ? [owedLine(now)] : [])].join(" ");
 }
 
+/** What came in since the pledge was shown, as the lines of a question; or none. */
+export function betweenLines(shown, now) {
+  const lines = [...listed(now.entries.slice(shown.entries.length)), ...otherChanges(shown, now)];
+  return lines.length > 0 ? [SINCE, ...lines] : [];
+}
+
 /** The refusal that the pledge, as it was read just now, must bring; or null. */
 function refusedNow({ status, owed, kind, credit }, sort, pence) {
   if (!isOpen(status)) return refusalOf(status === "passed" ? "Passed" : "Closed");
@@ -104,14 +110,14 @@ function mending({ kind, owed, status }, sort, pence) {
  * else null.
  */
 function questionOf({ shown, now, sort, pence, askFrom }) {
-  const [entries, changes] = [now.entries.slice(shown.entries.length), otherChanges(shown, now)];
+  const [entries, between] = [now.entries.slice(shown.entries.length), betweenLines(shown, now)];
   const amount = inPounds(pence);
   const mine = `your ${WORDS[sort].name} of ${amount}`;
   const mayBeListed = entries.some((one) => one.sort === sort);
-  if (entries.length + changes.length > 0) return {
+  if (between.length > 0) return {
     title: "Something came in between", about: now,
     lines: [
-      SINCE, ...listed(entries), ...changes, owedLine(now),
+      ...between, owedLine(now),
       mayBeListed ? `Is ${mine} another one? If it is listed here already, record nothing.`
         : `Do you still want to record ${mine}?`,
     ],
