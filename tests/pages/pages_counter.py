@@ -663,6 +663,42 @@ def a_redemption_by_another_during_the_question_is_told():
         no_faults()
 
 
+def nothing_is_owed_now_on_a_pledge_that_is_closed():
+    """Another till recorded a payment while the form of the redemption, or of the sale, was filled in."""
+    with Pages() as pages:
+        make_book(pages, terms=False)
+        fill_book(pages, book_text(
+            [("Ring", "R1", 9000, ago(30), "", "no"), ("Old clock", "O1", 9000, ago(220), "", "no")], rates=(0, 0, 0),
+        ))
+        open_book(pages)
+        the_book_is_read()
+        for number, title, fields, pressed, yes, done in (
+            (
+                1, "Redeem by the paper", {"receipt": f"1-{secret_of(1)}", "amount": "40"}, "Redeem",
+                "Redeem for £40.00", f"Redeemed on {in_words(today())}: £40.00 was paid.",
+            ),
+            (2, "Sale", {"amount": "120.25"}, "Record the sale", "Sold for £120.25", "Sold for £120.25: "),
+        ):
+            find(str(number))
+            browser.says("£90.00 owed today", "#statement")
+            unfold(title)
+            browser.fill(".action[open] form", **fields)
+            paid = pages.session.broker("POST", f"/books/7/pledges/{number}/repay", {"pence": 5000, "seq": 1})
+            expect("another till's payment", paid[0], 200)
+            browser.press(".action[open] button", pressed)
+            browser.press("dialog button", yes)
+            browser.says(done, "#commands > .notice")
+            browser.rests()
+            said = browser.text("#commands > .notice")
+            expect(f"{title}: that something is owed now", "owed now" in said, False)
+            if number == 1:
+                browser.says(
+                    f"Since this pledge was shown here, this happened: Repaid: £50.00, on {in_short(today())}.",
+                    "#commands > .notice",
+                )
+        no_faults()
+
+
 def a_redemption_by_another_before_the_press_is_shown():
     """The pawnor redeems on a telephone, and then the clerk presses: the pledge beside the reason is no longer open."""
     with an_open_book() as pages:
@@ -718,6 +754,51 @@ def a_sale_is_not_recorded_where_the_pledge_changed_during_the_question():
         browser.says("The pledge is redeemed or sold already.", "#commands")
         browser.says("Sold on", "#statement")
         expect("not by this press", "the sale is recorded once" in browser.text("#commands"), False)
+        no_faults()
+
+
+def the_question_of_a_sale_names_what_came_in_between():
+    """The pawnor pays while the form is filled in: the clerk reads it before the sale, which can't be taken back."""
+    with Pages() as pages:
+        make_book(pages, terms=False)
+        fill_book(pages, book_text([("Old clock", "O1", 9000, ago(220), "", "no")], rates=(0, 0, 0)))
+        open_book(pages)
+        the_book_is_read()
+        find("1")
+        browser.says("£90.00 owed today", "#statement")
+        since = "Since this pledge was shown here, this happened:"
+
+        def pay(seq, pence):
+            """The pawnor's payment, while the form is open."""
+            body = {"pence": pence, "seq": seq}
+            paid = pages.session.bearer(f"1-{secret_of(1)}", "POST", "/books/7/held/repay", body)
+            expect("the pawnor's payment", paid[0], 200)
+
+        unfold("Sale")
+        browser.fill(".action[open] form", amount="120.25")
+        pay(1, 5000)
+        expect("another till's hold", pages.session.broker("POST", "/books/7/pledges/1/hold")[0], 200)
+        browser.press(".action[open] button", "Record the sale")
+        browser.says("£40.00 is owed today. The surplus is £80.25: it is the pawnor’s.", "dialog")
+        for line in since, f"Repaid: £50.00, on {in_short(today())}.", "The pledge was put on hold.":
+            browser.says(line, "dialog")
+        pay(2, 700)
+        browser.press("dialog button", "Not now")
+        browser.says(f"Nothing was done. {since} Repaid: £7.00, on {in_short(today())}. £33.00 is owed now.", "#commands")
+        expect("what the question named is not said again", "£50.00" in browser.text("#commands .action[open]"), False)
+        browser.rests()
+        browser.press(".action[open] button", "Record the sale")
+        browser.says("£33.00 is owed today.", "dialog")
+        expect("what is shown is no news", since in browser.text("dialog"), False)
+        browser.press("dialog button", "Not now")
+        browser.says("Nothing was done.", "#commands")
+        browser.rests()
+        pay(3, 300)
+        browser.press(".action[open] button", "Record the sale")
+        browser.says(f"Repaid: £3.00, on {in_short(today())}.", "dialog")
+        browser.press("dialog button", "Sold for £120.25")
+        browser.says("Sold for £120.25: ", "#commands > .notice")
+        expect("what the question named is not said again", since in browser.text("#commands > .notice"), False)
         no_faults()
 
 
@@ -1016,8 +1097,10 @@ main(
         a_payment_that_was_made_during_the_question_is_named_in_the_refusal, redemption_by_the_paper,
         a_redemption_that_the_browser_sends_twice_is_told, a_sale_that_the_browser_sends_twice_is_told,
         a_sale_is_not_recorded_where_the_pledge_changed_during_the_question,
+        the_question_of_a_sale_names_what_came_in_between,
         a_visit_that_is_changed_during_the_question_is_not_refused_unseen,
         a_redemption_by_another_during_the_question_is_told, a_redemption_by_another_before_the_press_is_shown,
+        nothing_is_owed_now_on_a_pledge_that_is_closed,
         of_a_declaration_that_the_browser_sends_twice_the_live_receipt_is_printed,
         a_receipt_of_a_pledge_that_is_over_is_printed_as_such,
         a_receipt_is_printed_again, who_waits_for_another_day, what_is_due, the_book_is_read_anew,

@@ -866,6 +866,24 @@ def a_day_that_cant_be_read_shows_no_other():
             browser.says("11:00 to 11:30", "#sheet")
 
 
+def a_sheet_that_is_read_again_is_not_left_under_what_failed():
+    """The line went down, and the book was read again once it was back."""
+    with an_open_book():
+        the_book_is_read()
+        browser.says("Coming", "#sheet")
+        for step in "1", "0":
+            browser.rests()
+            with browser.without_a_line():
+                browser.press(f"#sheet-day button[value='{step}']")
+                browser.says("The service can’t be reached just now.", "#sheet-day", patience=30)
+            browser.press("#read-book")
+            browser.says("Coming", "#sheet")
+            browser.until(
+                "return document.querySelector('#sheet-day .notice').textContent === ''", f"{step}: no word of a failure"
+            )
+            expect(f"{step}: when an old one was read", browser.text("#sheet-old"), "")
+
+
 main(
     (),
     (
@@ -892,5 +910,6 @@ main(
         a_renewal_that_is_asked_about_over_midnight_takes_the_charges_of_the_new_day,
         what_was_said_of_a_pledge_is_not_left_over_midnight,
         a_pledge_that_is_taken_after_midnight_says_its_day, a_day_that_cant_be_read_shows_no_other,
+        a_sheet_that_is_read_again_is_not_left_under_what_failed,
     ),
 )

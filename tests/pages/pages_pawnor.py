@@ -8,7 +8,7 @@ from tests.library.dates import six_months_after, today
 from tests.library.pages.browser import Pages
 from tests.library.pages.steps import (
     a_pledge_by_its_receipt, ago, agree, an_open_book, browser, command, entries, in_short, in_words, main, make_book,
-    no_faults, take_a_ring,
+    no_faults, take_a_ring, the_clock_goes_on, unfold,
 )
 from tests.library.waiting import wait_for
 
@@ -257,6 +257,44 @@ def a_pledge_is_tried_again_by_itself_once_the_line_is_back():
         no_faults()
 
 
+# What a card waits for, the sums that are seen, and whether what is owed together is said.
+SEEN = """
+const { innerText } = document.querySelector("#cards");
+const waiting = innerText.split("One moment…").length - 1;
+return [waiting, innerText.includes("£"), document.querySelector("#sum-line").checkVisibility()];
+"""
+
+
+def sums_of_another_day_are_not_shown_as_owed_today():
+    """A telephone is looked at again on a later day, and its line is away: more may be owed by then."""
+    with Pages() as pages:
+        make_book(pages)
+        receipts = [pages.session.open_pledge(number, article=f"Ring {number}") for number in range(1, 6)]
+        browser.forget()
+        browser.go(f"{pages.address}/pawn/#book=7&" + "&".join(f"receipt={one}" for one in receipts))
+        owed = "£500.00 is owed today on 5 pledges together."
+        browser.says(owed, "#sum-line")
+        browser.rests()
+        with browser.without_a_line():
+            the_clock_goes_on(60)
+            expect("on the same day", browser.run(SEEN), [0, True, True])
+            the_clock_goes_on(86_400)
+            expect("on the next day", browser.run(SEEN), [5, False, False])
+        browser.says(owed, "#sum-line", patience=30)
+        browser.rests()
+        expect("once it was read", browser.run(SEEN), [0, True, True])
+        browser.faults()
+        unfold("Record a part payment")
+        browser.fill(".action[open] form", amount="12.34")
+        browser.run("document.querySelector('.action[open] [name=amount]').focus()")
+        the_clock_goes_on(2 * 86_400)
+        browser.says(owed, "#sum-line")
+        browser.rests()
+        typed = "return [document.activeElement.name, document.activeElement.value]"
+        expect("what was typed, and the focus", browser.run(typed), ["amount", "12.34"])
+        no_faults()
+
+
 def a_payment_on_a_line_that_drops():
     """Once it was sent, no word says that it was not done."""
     with a_pledge_by_its_receipt() as (pages, receipt):
@@ -493,6 +531,7 @@ main(
         a_redemption_that_was_not_done_is_forgotten, a_redemption_that_is_refused_is_not_asked_about,
         what_the_page_says_of_links, without_a_line,
         a_pledge_is_tried_again_by_itself_once_the_line_is_back, a_payment_on_a_line_that_drops,
+        sums_of_another_day_are_not_shown_as_owed_today,
         a_receipt_that_is_typed_again_takes_the_place_of_the_mistyped_one,
         a_visit_is_not_said_to_be_cancelled_before_it_is, a_payment_whose_reply_is_lost_for_good,
         a_visit_after_the_end, receipts_as_people_write_them,

@@ -28,7 +28,7 @@ import { tagging } from "./tag.js";
 function commandFold({ title, barred, parts, act, isEntry = false }, desk) {
   const content = barred ? [make("p", { className: "barred" }, barred)] : parts;
   const form = make("form", { autocomplete: "off" }, ...content);
-  return fold(title, form, (fields, place) => desk.perform(() => act(fields), place, isEntry));
+  return fold(title, form, (fields, place) => desk.perform((noteAsked) => act(fields, noteAsked), place, isEntry));
 }
 
 const lead = (text) => make("p", { className: "lead" }, text);

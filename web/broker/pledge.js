@@ -201,7 +201,8 @@ class Desk {
 
   /**
    * Runs an act on the pledge, shows the pledge as it is then, and reports the result; and what others recorded
-   * meanwhile. An act that records an entry has asked about that, unless a refusal came before its question.
+   * meanwhile. An act that records an entry has asked about that, unless a refusal came before its question. Another
+   * act whose question names that calls the function that it gets, with the statement that it asks about.
    */
   async perform(act, { form, notice: line, title }, isEntry = false) {
     const { number, statement: shown } = this;
@@ -211,10 +212,12 @@ class Desk {
     tell(byId("elsewhere"), "");
     const session = current();
     let said;
+    let known = shown;
+    const noteAsked = (asked) => { known = asked; };
     this.actingOn = number;
     const fault = await run({
       notice: line, within: byId("commands"), reader: "broker", about: number,
-      act: async () => { said = await act(); return said; },
+      act: async () => { said = await act(noteAsked); return said; },
     });
     if (this.actingOn === number) this.actingOn = null;
     if (session !== current()) return;
@@ -234,7 +237,7 @@ class Desk {
     }
     this.saidOn = today();
     const isAsked = fault instanceof Outdated || (isEntry && !(fault instanceof Refused));
-    const more = isAsked ? "" : othersInWords(shown, this.statement);
+    const more = isAsked ? "" : othersInWords(known, this.statement);
     sayAfter({
       within: byId("commands"), notice: this.notice, title: place, fields, said, fault, reader: "broker", more,
     });

@@ -5,6 +5,7 @@ import { make } from "../shared/dom.js";
 import { CHANGED, lookFirst, orSeen, Outdated } from "../shared/faults.js";
 import { buttons, field } from "../shared/forms.js";
 import { inPounds, MOST_PENCE, readPounds } from "../shared/money.js";
+import { betweenLines } from "../shared/payments.js";
 import { firstDayAfter, willPass } from "../shared/period.js";
 import { confirmed, NOTHING_DONE } from "../shared/questions.js";
 import { saleInWords } from "../shared/states.js";
@@ -75,14 +76,17 @@ function refuseChanged(asked, now) {
   ].filter(Boolean).join(" "));
 }
 
-async function sell({ amount }, desk) {
+/** Asks first, in a question that names what came in since the pledge was shown with the form. */
+async function sell({ amount }, { shown, desk, noteAsked }) {
   const net = readPounds(amount);
   if (net > MOST_PENCE) throw refusalOf("BadAmount");
   const now = await look(desk);
   const { owed, held, booking } = now;
+  noteAsked(now);
   const yes = await confirmed({
     title: "Record the sale?", about: now,
     lines: [
+      ...betweenLines(shown, now),
       `The article was sold, and ${inPounds(net)} is left after the costs of the sale.`,
       `${inPounds(owed.owing)} is owed today. ${outcome(net, owed.owing)}`,
       held ? "Find out why it is on hold before the article is sold." : null,
@@ -105,5 +109,5 @@ export const sale = (statement, desk) => ({
   parts: [make("p", { className: "lead" }, "What the article brought, less the costs of its sale. It may be nothing."),
     field("Net proceeds, in pounds", make("input", { name: "amount", inputMode: "decimal", required: true })),
     buttons(make("button", { className: "grave" }, "Record the sale"))],
-  act: (fields) => sell(fields, desk),
+  act: (fields, noteAsked) => sell(fields, { shown: statement, desk, noteAsked }),
 });

@@ -29,6 +29,8 @@ let notice;
 let sheet = null;
 /** When the sheet that is shown was read. */
 let readAt = 0;
+/** The day whose sheet was asked for last, if it could not be read; or null. */
+let failed = null;
 /** The sheets that were read since this part was gone to, by their days. */
 const sheets = new Map();
 
@@ -161,9 +163,13 @@ const hasNews = ({ day, asked: all }) => ledger.book !== null && all.some(({ num
 /** When the sheet that is shown was read, or null if none is shown. */
 export const sheetReadAt = () => (sheet === null ? null : readAt);
 
+/** A sheet was read: when what is shown was read, and that it can't be read, is no longer said. */
 function noteRead() {
   readAt = Date.now();
   tell(byId("sheet-old"), "");
+  if (failed === null) return;
+  failed = null;
+  tell(notice, "");
 }
 
 async function read(day) {
@@ -189,21 +195,26 @@ function showAsOld(day) {
 /** Reads a sheet, and shows it. */
 async function show(day) {
   const session = current();
+  failed = null;
   try {
     await read(day);
   } catch (fault) {
-    if (session === current()) showAsOld(day);
+    if (session === current()) {
+      showAsOld(day);
+      failed = day;
+    }
     throw fault;
   }
 }
 
 /**
- * Looks at the sheet that is shown, and at those of the next days, without a word; what is new in them is drawn. After a
- * look that fails, the page says when what it shows was read. The sheet that is shown may have been read just now.
+ * Looks at the sheet that is shown, or that could not be shown, and at those of the next days, without a word; what is
+ * new in them is drawn. After a look that fails, the page says when what it shows was read. The sheet that is shown may
+ * have been read just now.
  */
 export async function refreshToday({ isShownRead = false } = {}) {
-  if (sheet === null) return;
-  const { day } = sheet;
+  const day = sheet?.day ?? failed;
+  if (day === null) return;
   const next = Array.from({ length: AHEAD + 1 }, (_, count) => plusDays(today(), count));
   const wanted = new Set([day, ...next]);
   if (isShownRead) wanted.delete(day);
@@ -214,14 +225,14 @@ export async function refreshToday({ isShownRead = false } = {}) {
     return;
   }
   // Where the part was gone to again meanwhile, its sheet is on its way.
-  if (sheet?.day !== day || !sheets.has(day)) return;
+  if ((sheet?.day ?? failed) !== day || !sheets.has(day)) return;
   sheet = sheets.get(day);
   noteRead();
   draw();
 }
 
 export function clearToday() {
-  sheet = null;
+  sheet = failed = null;
   sheets.clear();
   byId("sheet").replaceChildren();
   tell(byId("sheet-old"), "");

@@ -2,6 +2,7 @@
 import { ask } from "../shared/api.js";
 import { clockOf } from "../shared/clock.js";
 import { CODES, isRefusal } from "../shared/codes.js";
+import { today } from "../shared/days.js";
 import { foreign, make } from "../shared/dom.js";
 import { isFailedLook, tellFault } from "../shared/faults.js";
 import { fieldsOf, makeNotice, redrawFolds, run, sayAfter, tell } from "../shared/forms.js";
@@ -38,11 +39,14 @@ const NOT_DONE = "What you asked for just now was not done.";
 const isSurelyUndone = (fault, title) =>
   isRefusal(fault, ...OPENS_NOTHING) && !fault.mayBeDone && title !== REDEEM;
 
+/** What is shown in place of a pledge while the service is asked for it. */
+const waiting = () => make("p", { className: "waiting", tabIndex: -1 }, "One moment…");
+
 /** A pledge on the page. It looks at the service whenever something was done. */
 export class Card {
   constructor(one, forget, changed) {
     const { book, receipt } = one;
-    Object.assign(this, { one, book, receipt, changed, statement: null, readAt: 0 });
+    Object.assign(this, { one, book, receipt, changed, statement: null, readAt: 0, day: null });
     this.learn(one);
     // The act that is under way, until its result is reported.
     this.acting = Promise.resolve();
@@ -52,7 +56,9 @@ export class Card {
     // Whether the page says, in place of the pledge, that the receipt opens nothing.
     this.saysDead = false;
     this.isShown = false;
-    this.summary = make("div", { className: "summary" }, make("p", { className: "waiting" }, "One moment…"));
+    // The name of the field that had the focus when the pledge was hidden, or an empty text.
+    this.typing = "";
+    this.summary = make("div", { className: "summary" }, waiting());
     this.notice = makeNotice();
     this.actions = make("div", { className: "actions" });
     const forgetting = make("button", { type: "button", className: "link" }, "Put this receipt away");
@@ -89,6 +95,7 @@ export class Card {
   async look(done = null) {
     this.statement = await this.read();
     this.readAt = Date.now();
+    this.day = today();
     this.isShown = this.one.wasSeen = true;
     // A redemption whose reply was lost was not done, if the pledge is open.
     this.neverOpened = this.saysDead = this.one.lostRedemption = false;
@@ -99,6 +106,28 @@ export class Card {
     );
     if (hasFocus) this.focus();
     redrawFolds(this.actions, () => this.actions.replaceChildren(...actionsOf(this)), done);
+    this.actions.hidden = false;
+    if (hasFocus && this.typing) this.actions.querySelector(`details[open] [name="${this.typing}"]`)?.focus();
+    this.typing = "";
+  }
+
+  /**
+   * Hides a pledge that was read on another day, until it is read again: more may be owed today. What was typed stays.
+   * An act that is under way reads its pledge itself.
+   */
+  hideOld() {
+    if (!this.isShown || this.isActing || this.day === today()) return;
+    const focused = document.activeElement;
+    const isTyping = this.actions.contains(focused);
+    const hasFocus = isTyping || this.summary.contains(focused);
+    const line = waiting();
+    this.isShown = false;
+    this.typing = isTyping ? focused.name ?? "" : "";
+    this.summary.replaceChildren(line);
+    this.actions.hidden = true;
+    tell(this.notice, "");
+    if (hasFocus) line.focus({ preventScroll: true });
+    this.changed();
   }
 
   /** The present statement. */
@@ -132,12 +161,14 @@ export class Card {
       this.drawRedeemed();
       return true;
     }
+    this.hideOld();
     return this.showNow();
   }
 
   /** The same of a pledge that is shown. If it can't be read again, it stays, and the page says when it was read. */
   async refresh() {
     await this.acting;
+    this.hideOld();
     if (!this.isShown) return this.show();
     try {
       await this.look();
@@ -170,7 +201,7 @@ export class Card {
   }
 
   focus() {
-    this.summary.querySelector("h2").focus();
+    this.summary.querySelector("h2")?.focus();
   }
 
   /** What is owed today, in pence; 0 where that is not known, or nothing is owed any more. */

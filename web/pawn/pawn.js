@@ -145,10 +145,14 @@ async function find(fields) {
   return "";
 }
 
-/** A tab that was left open notices the new day, on which more may be owed. */
+/**
+ * A tab that was left open notices the new day, on which more may be owed. On a line that is away the looks take long,
+ * and only a few are made at once: until then no sum of the day before is shown.
+ */
 function tick() {
   if (document.hidden || day === today()) return;
   day = today();
+  cards.forEach((card) => card.hideOld());
   look(cards);
 }
 

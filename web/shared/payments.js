@@ -44,14 +44,23 @@ function otherChanges(shown, now) {
   return lines;
 }
 
-const owedLine = ({ owed }) => (owed ? `${inPounds(owed.owing)} is owed now.` : "Nothing more is done on this pledge.");
+/** What is owed now on an open pledge. The statement of a closed one has the sum that was owed when it was closed. */
+const owedLine = ({ status, owed }) =>
+  (isOpen(status) ? `${inPounds(owed.owing)} is owed now.` : "Nothing more is done on this pledge.");
 
 const SINCE = "Since this pledge was shown here, this happened:";
 
-/** What others recorded since the pledge was shown, and what is owed now, as a text; or an empty one. */
+/** What others recorded since the pledge was shown, and what is owed now on an open one, as a text; or an empty one. */
 export function othersInWords(shown, now) {
   const entries = now.entries.slice(shown.entries.length);
-  return entries.length > 0 ? [SINCE, ...listed(entries), owedLine(now)].join(" ") : "";
+  if (entries.length === 0) return "";
+  return [SINCE, ...listed(entries), ...(isOpen(now.status) ? [owedLine(now)] : [])].join(" ");
+}
+
+/** What came in since the pledge was shown, as the lines of a question; or none. */
+export function betweenLines(shown, now) {
+  const lines = [...listed(now.entries.slice(shown.entries.length)), ...otherChanges(shown, now)];
+  return lines.length > 0 ? [SINCE, ...lines] : [];
 }
 
 /** The refusal that the pledge, as it was read just now, must bring; or null. */
@@ -101,14 +110,14 @@ function mending({ kind, owed, status }, sort, pence) {
  * else null.
  */
 function questionOf({ shown, now, sort, pence, askFrom }) {
-  const [entries, changes] = [now.entries.slice(shown.entries.length), otherChanges(shown, now)];
+  const [entries, between] = [now.entries.slice(shown.entries.length), betweenLines(shown, now)];
   const amount = inPounds(pence);
   const mine = `your ${WORDS[sort].name} of ${amount}`;
   const mayBeListed = entries.some((one) => one.sort === sort);
-  if (entries.length + changes.length > 0) return {
+  if (between.length > 0) return {
     title: "Something came in between", about: now,
     lines: [
-      SINCE, ...listed(entries), ...changes, owedLine(now),
+      ...between, owedLine(now),
       mayBeListed ? `Is ${mine} another one? If it is listed here already, record nothing.`
         : `Do you still want to record ${mine}?`,
     ],
