@@ -784,7 +784,8 @@ def the_question_of_a_sale_names_what_came_in_between():
             browser.says(line, "dialog")
         pay(2, 700)
         browser.press("dialog button", "Not now")
-        browser.says(f"Nothing was done. {since} Repaid: £7.00, on {in_short(today())}. £33.00 is owed now.", "#commands")
+        news = f"{since} Repaid: £7.00, on {in_short(today())}. £33.00 is owed now."
+        browser.says(f"Nothing was done. {news}", "#commands")
         expect("what the question named is not said again", "£50.00" in browser.text("#commands .action[open]"), False)
         browser.rests()
         browser.press(".action[open] button", "Record the sale")

@@ -878,9 +878,8 @@ def a_sheet_that_is_read_again_is_not_left_under_what_failed():
                 browser.says("The service can’t be reached just now.", "#sheet-day", patience=30)
             browser.press("#read-book")
             browser.says("Coming", "#sheet")
-            browser.until(
-                "return document.querySelector('#sheet-day .notice').textContent === ''", f"{step}: no word of a failure"
-            )
+            gone = "return document.querySelector('#sheet-day .notice').textContent === ''"
+            browser.until(gone, f"{step}: no word of a failure")
             expect(f"{step}: when an old one was read", browser.text("#sheet-old"), "")
 
 
