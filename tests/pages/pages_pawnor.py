@@ -45,6 +45,26 @@ def two_equal_payments_are_two():
         no_faults()
 
 
+def a_no_shows_what_the_shop_recorded_meanwhile():
+    """The question names it, and after the answer no nothing older than the question is shown."""
+    with a_pledge_by_its_receipt() as (pages, _):
+        browser.says("£100.00 owed today", "#cards")
+        pages.session.broker("POST", "/books/7/pledges/1/repay", {"pence": 3000, "seq": 1})
+        command("Record a part payment", "Record the payment", amount="30")
+        browser.says(f"Repaid: £30.00, on {in_short(today())}.", "dialog")
+        browser.press("dialog button", "Not yet")
+        browser.says("Nothing was recorded.", "#cards")
+        browser.says("£70.00 owed today", "#cards")
+        expect("what was typed stays", browser.run("return document.querySelector('.action[open] [name=amount]').value"), "30")
+        command("Redeem", "Redeem for £70.00")
+        browser.says("Redeem this pledge?", "dialog")
+        pages.session.broker("POST", "/books/7/pledges/1/repay", {"pence": 1000, "seq": 2})
+        browser.press("dialog button", "Not yet")
+        browser.says("Nothing was done.", "#cards")
+        browser.says("£60.00 owed today", "#cards")
+        no_faults()
+
+
 def an_amount_that_is_refused_is_not_asked_about():
     """Above what is owed, also if the shop recorded a payment since the pledge was shown; and nothing."""
     with a_pledge_by_its_receipt() as (pages, _):
@@ -525,7 +545,8 @@ def a_pledge_that_was_shown_has_the_focus():
 main(
     (),
     (
-        two_equal_payments_are_two, an_amount_that_is_refused_is_not_asked_about,
+        two_equal_payments_are_two, a_no_shows_what_the_shop_recorded_meanwhile,
+        an_amount_that_is_refused_is_not_asked_about,
         a_receipt_that_died_says_one_thing, what_was_redeemed_on_this_page_stays_redeemed,
         an_act_by_a_receipt_that_died_is_said_not_to_be_done,
         a_redemption_that_was_not_done_is_forgotten, a_redemption_that_is_refused_is_not_asked_about,

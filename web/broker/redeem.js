@@ -25,12 +25,16 @@ function receiptOf(typed, number) {
   return receipt;
 }
 
+/** The receipt was used before, and not by this press: a clerk may have the money in hand. */
+const NOT_BY_THIS = " That was not by this press, which did nothing. Don’t hand out the article for this receipt.";
+
 /** The present pledge that the receipt opens. If the pledge is over, the page is to show it anew beside the reason. */
 async function look(desk, receipt) {
   const held = await lookFirst(desk.held(receipt));
   if (held !== null) return held;
   const { sentence, statement, later } = await desk.whyDead(receipt);
-  if (statement && !isOpen(statement.status)) throw new Outdated(sentence, "receipt");
+  const more = statement?.status === "redeemed" ? NOT_BY_THIS : "";
+  if (statement && !isOpen(statement.status)) throw new Outdated(sentence + more, "receipt");
   throw new Unreadable(sentence, "receipt", later);
 }
 

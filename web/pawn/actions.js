@@ -5,7 +5,7 @@ import { make } from "../shared/dom.js";
 import { CHANGED, Lost, lookFirst, orSeen, Outdated } from "../shared/faults.js";
 import { buttons, field, fold } from "../shared/forms.js";
 import { inPounds, readPounds } from "../shared/money.js";
-import { readUnrefused, recordEntry } from "../shared/payments.js";
+import { betweenLines, readUnrefused, recordEntry } from "../shared/payments.js";
 import { graceEnd, lastSafeDay, willPass } from "../shared/period.js";
 import { confirmed, NOTHING_DONE } from "../shared/questions.js";
 import { reckoningForm } from "../shared/reckoning.js";
@@ -21,9 +21,6 @@ const foldOf = (card, title, parts, act) =>
   fold(
     title, make("form", { autocomplete: "off" }, ...parts), (fields, place) => card.perform(() => act(fields), place),
   );
-
-/** What is said where the answer to a question was no. Nothing was changed, so nothing is looked at. */
-const NOT_NOW = { ...NOTHING_DONE, look: false };
 
 /**
  * A visit after the period's end and its days of grace may come too late: it is asked about. Throws where the article
@@ -86,14 +83,14 @@ async function readOpen(card) {
 async function askForVisit(card, { day, window }) {
   if (!day) throw new Unreadable("Choose a day.", "day");
   if (day < today()) throw new Unreadable("That day is over. Choose a later one.", "day");
-  if (!await agreedToOver(card.statement, day, Number(window))) return NOT_NOW;
-  if (!await agreedToLate(await readOpen(card), card.known, day)) return NOT_NOW;
+  if (!await agreedToOver(card.statement, day, Number(window))) return NOTHING_DONE;
+  if (!await agreedToLate(await readOpen(card), card.known, day)) return NOTHING_DONE;
   const now = await readOpen(card);
   const isSame = now.booking?.day === day && now.booking.window === Number(window);
   if (!isSame && !await agreedToGiveUp(now, {
     title: "Give up the confirmed visit?", yes: "Ask for the new time",
     line: "It is given up as soon as you ask for another time, and the shop may refuse the new one.",
-  })) return NOT_NOW;
+  })) return NOTHING_DONE;
   const wanted = { day, window: Number(window) };
   return orSeen(
     card.ask("/ask", wanted, true).then(({ said }) => askedInWords({ ...said, state: said.booking })),
@@ -143,7 +140,7 @@ function cancelFold(card) {
     if (!await agreedToGiveUp(await lookFirst(card.read()), {
       title: "Cancel the confirmed visit?", yes: "Cancel the visit",
       line: "Once it is cancelled, the shop may give its time to another.",
-    })) return NOT_NOW;
+    })) return NOTHING_DONE;
     const told = (visit) => `The visit is cancelled: ${visitInWords(visit)}.`;
     return orSeen(
       card.ask("/cancel", undefined, true).then(({ said }) => told(said)), () => card.read(),
@@ -161,13 +158,14 @@ async function repay(card, { amount }) {
   const yes = await confirmed({
     title: `Record ${inPounds(pence)} as paid?`, about: card.statement,
     lines: [
+      ...betweenLines(card.statement, now),
       "This page moves no money. Say yes only where the pawnbroker has received the amount.",
       "If the shop has recorded it already, say no: it would count twice.",
       pence === now.owed.owing ? ALL_PAID : null,
     ],
     yes: `Yes, ${inPounds(pence)} was received`, no: "Not yet",
   });
-  if (!yes) return { sentence: "Nothing was recorded.", tone: "quiet", look: false };
+  if (!yes) return { sentence: "Nothing was recorded.", tone: "quiet" };
   return recordEntry({
     shown: card.statement, sort: "repay", pence, askFrom: Infinity, read: () => card.read(),
     send: (body) => card.ask("/repay", body, true),
@@ -214,7 +212,7 @@ async function redeem(card) {
     ],
     yes: owing === 0 ? "Yes, I am given the article" : `Yes, ${inPounds(owing)} was received`, no: "Not yet",
   });
-  if (!yes) return NOT_NOW;
+  if (!yes) return NOTHING_DONE;
   try {
     const { said } = await card.ask("/redeem", { paid: owing }, false);
     card.showRedeemed(`Redeemed on ${inWords(said.redeemed)}. ${inPounds(said.paid)} was paid.`);
