@@ -523,6 +523,7 @@ def what_came_in_between_is_named():
         browser.says("The pledge was put on hold.", "dialog")
         browser.says("Do you still want to record your repayment of £5.00?", "dialog")
         browser.press("dialog button", "No, record nothing")
+        browser.says("Nothing was recorded.", "#commands")
         browser.rests()
         browser.fill(".action[open] form", amount="6")
         pages.session.broker("POST", "/books/7/pledges/1/release")
