@@ -38,7 +38,8 @@ def stop_if_another_began(command, *stores, name=None):
     for known, note in begun_notes():
         begun = note.get("command", known)
         if begun != command and not begun.startswith("book ") and (known == name or {*stores} & {*note.get("stores", ())}):
-            raise Stop(f"another command has begun and not ended. If it is not at work any more, first run it again: `pawnd-admin {begun}`")
+            raise Stop("another command has begun and not ended. If it is not at work any more, first run it again: `pawnd-admin "
+                       f"{begun}`")
 
 
 @contextlib.contextmanager

@@ -15,7 +15,6 @@ from reading import contents_of
 from settings import Stop, Store, book_number, conf_of, say, store_name, store_names
 
 
-
 def key_of_file(path):
     try:
         with open(path) as file:

@@ -669,7 +669,7 @@ def nothing_is_owed_now_on_a_pledge_that_is_closed():
     with Pages() as pages:
         make_book(pages, terms=False)
         fill_book(pages, book_text(
-            [("Ring", "R1", 9000, ago(30), "", "no"), ("Old clock", "O1", 9000, ago(220), "", "no")], rates=(0, 0, 0),
+            [("Ring", "A1", 9000, ago(30), "", "no"), ("Old clock", "A2", 9000, ago(220), "", "no")], rates=(0, 0, 0),
         ))
         open_book(pages)
         the_book_is_read()
